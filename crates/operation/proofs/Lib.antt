@@ -1,0 +1,9 @@
+pub mod Shapes
+pub mod Tp1
+pub mod Standing
+pub mod Struck
+pub mod Singles
+pub mod Through
+pub mod Renaming
+pub mod Bounds
+pub mod Passing

@@ -1,0 +1,5 @@
+pub mod Letters
+pub mod Edits
+pub mod Transform
+pub mod Laws
+pub mod Commutes

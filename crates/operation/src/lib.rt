@@ -1,0 +1,4 @@
+// Operations on a text, and what one becomes that another was done before.
+pub mod operation;
+mod theorems;
+pub mod transform;
