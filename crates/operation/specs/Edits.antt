@@ -52,3 +52,9 @@ abbrev pub rename : {A B : Type 0} → (A → B) → Operation A → Operation B
 rename f (Noop i) = Noop i
 rename f (Insert i p x) = Insert i p (f x)
 rename f (Delete i p) = Delete i p
+
+-- the same operation at another place
+abbrev pub movedTo : {A : Type 0} → ℕ → Operation A → Operation A
+movedTo q (Noop i) = Noop i
+movedTo q (Insert i p x) = Insert i q x
+movedTo q (Delete i p) = Delete i q

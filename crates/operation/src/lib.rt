@@ -1,4 +1,6 @@
 // Operations on a text, and what one becomes that another was done before.
 pub mod operation;
+#[cfg(test)]
+mod tests;
 mod theorems;
 pub mod transform;

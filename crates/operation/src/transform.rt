@@ -10,58 +10,39 @@ pub fn transform(a: Operation, b: Operation) -> Operation
 {
     match a {
         Operation::Noop { .. } => a,
-        Operation::Insert {
-            site,
-            place,
-            letter,
-        } => match b {
+        Operation::Insert { site, place, .. } => match b {
             Operation::Noop { .. } => a,
             Operation::Insert {
-                site: other,
+                site: rival,
                 place: at,
                 ..
             } => {
-                if at < place || (at == place && other < site) {
-                    Operation::Insert {
-                        site,
-                        place: place.saturating_add(1),
-                        letter,
-                    }
+                if at < place || (at == place && rival < site) {
+                    a.moved(place.saturating_add(1))
                 } else {
                     a
                 }
             }
-            Operation::Delete { place: at, .. } => {
-                if at < place {
-                    Operation::Insert {
-                        site,
-                        place: place - 1,
-                        letter,
-                    }
-                } else {
-                    a
-                }
+            Operation::Delete { place: gone, .. } => {
+                if gone < place { a.moved(place - 1) } else { a }
             }
         },
-        Operation::Delete { site, place } => match b {
+        Operation::Delete {
+            site,
+            place: target,
+        } => match b {
             Operation::Noop { .. } => a,
             Operation::Insert { place: at, .. } => {
-                if at <= place {
-                    Operation::Delete {
-                        site,
-                        place: place.saturating_add(1),
-                    }
+                if at <= target {
+                    a.moved(target.saturating_add(1))
                 } else {
                     a
                 }
             }
-            Operation::Delete { place: at, .. } => {
-                if at < place {
-                    Operation::Delete {
-                        site,
-                        place: place - 1,
-                    }
-                } else if at == place {
+            Operation::Delete { place: gone, .. } => {
+                if gone < target {
+                    a.moved(target - 1)
+                } else if gone == target {
                     Operation::Noop { site }
                 } else {
                     a

@@ -1,0 +1,121 @@
+// A line of a script, read as a command.
+ghost use mathlib.Core.Path.{_≡_};
+ghost use Rattle.std.specs.shelf.Text.{sameBytes};
+ghost use Rattle.script.specs.Commands.{verbOf, writerOf, placeOf, letterOf, typeOf, strikeOf, showOf, commandOf};
+use crate::command::Command;
+use crate::command::Fault;
+use crate::command::Verb;
+use crate::command::WRITERS;
+use crate::numbers::character;
+use crate::numbers::decimal;
+use crate::words::next_word;
+
+fn is_word(word: &[u8], name: &[u8]) -> bool
+    ensures { λ r. ⌜ r ≡ sameBytes (now (word .entry)) (now (name .entry)) ⌝ }
+{
+    word == name
+}
+
+fn verb(word: &[u8]) -> Option<Verb>
+    ensures { λ r. ⌜ r ≡ verbOf (now (word .entry)) ⌝ }
+{
+    if is_word(word, b"type") {
+        Some(Verb::Type)
+    } else if is_word(word, b"strike") {
+        Some(Verb::Strike)
+    } else if is_word(word, b"show") {
+        Some(Verb::Show)
+    } else {
+        None
+    }
+}
+
+fn writer(word: &[u8]) -> Result<u8, Fault>
+    ensures { λ r. ⌜ r ≡ writerOf (now (word .entry)) ⌝ }
+{
+    match decimal(word) {
+        Some(n) if n < WRITERS => Ok(n as u8),
+        _ => Err(Fault::NoWriter),
+    }
+}
+
+fn place(word: &[u8]) -> Result<u32, Fault>
+    ensures { λ r. ⌜ r ≡ placeOf (now (word .entry)) ⌝ }
+{
+    decimal(word).ok_or(Fault::BadPlace)
+}
+
+// A letter's number, or the letter itself.
+fn letter(word: &[u8]) -> Result<u32, Fault>
+    ensures { λ r. ⌜ r ≡ letterOf (now (word .entry)) ⌝ }
+{
+    match decimal(word) {
+        Some(n) => Ok(n),
+        None => character(word).ok_or(Fault::BadLetter),
+    }
+}
+
+// What follows `type`.
+fn parse_type(rest: &[u8]) -> Result<Command, Fault>
+    ensures { λ r. ⌜ r ≡ typeOf (now (rest .entry)) ⌝ }
+{
+    let (first, rest) = next_word(rest);
+    let (second, rest) = next_word(rest);
+    let (third, rest) = next_word(rest);
+    let (fourth, _) = next_word(rest);
+    if third.is_empty() || !fourth.is_empty() {
+        return Err(Fault::Words(Verb::Type));
+    }
+    let writer = writer(first)?;
+    let place = place(second)?;
+    let letter = letter(third)?;
+    Ok(Command::Type {
+        writer,
+        place,
+        letter,
+    })
+}
+
+// What follows `strike`.
+fn parse_strike(rest: &[u8]) -> Result<Command, Fault>
+    ensures { λ r. ⌜ r ≡ strikeOf (now (rest .entry)) ⌝ }
+{
+    let (first, rest) = next_word(rest);
+    let (second, rest) = next_word(rest);
+    let (third, _) = next_word(rest);
+    if second.is_empty() || !third.is_empty() {
+        return Err(Fault::Words(Verb::Strike));
+    }
+    let writer = writer(first)?;
+    let place = place(second)?;
+    Ok(Command::Strike { writer, place })
+}
+
+// What follows `show`.
+fn parse_show(rest: &[u8]) -> Result<Command, Fault>
+    ensures { λ r. ⌜ r ≡ showOf (now (rest .entry)) ⌝ }
+{
+    let (first, _) = next_word(rest);
+    if first.is_empty() {
+        Ok(Command::Show)
+    } else {
+        Err(Fault::Words(Verb::Show))
+    }
+}
+
+// The command on a line; none on a line that is empty or a comment.
+pub fn parse(line: &[u8]) -> Result<Option<Command>, Fault>
+    ensures { λ r. ⌜ r ≡ commandOf (now (line .entry)) ⌝ }
+{
+    let (first, rest) = next_word(line);
+    if first.is_empty() || first[0] == b'#' {
+        return Ok(None);
+    }
+    let command = match verb(first) {
+        Some(Verb::Type) => parse_type(rest)?,
+        Some(Verb::Strike) => parse_strike(rest)?,
+        Some(Verb::Show) => parse_show(rest)?,
+        None => return Err(Fault::UnknownCommand),
+    };
+    Ok(Some(command))
+}

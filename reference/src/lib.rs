@@ -1,0 +1,7 @@
+//! A second implementation of the rules in docs/PROTOCOL.md, as plain as can be.
+//! It is there to be compared with, so being easy to check comes before being fast.
+
+pub mod generate;
+pub mod operation;
+pub mod script;
+pub mod text;
