@@ -7,10 +7,10 @@ use lib.ListN.{length}
 use Rattle.operation.specs.declared.operation.Operation.{Operation}
 use Rattle.operation.specs.declared.operation.Operation.the-variants.{Noop, Insert, Delete}
 use Rattle.operation.specs.Edits.{insertAt, deleteAt, site, apply, Fits}
-use Rattle.operation.specs.Transform.{transform, highest, bounded, transformed, Passed, behind, through, Room}
+use Rattle.operation.specs.Transform.{transform, highest, bounded, transformed, Passed, behind, through}
 use Rattle.operation.specs.Laws.{singles, applyAll, Others}
 use Rattle.operation.specs.Commutes.{Commutes}
-use Rattle.operation.proofs.Shapes.{room-less}
+use Rattle.operation.proofs.Shapes.{Room, room-less}
 use Rattle.operation.proofs.Tp1.{length-insertAt, length-deleteAt}
 use Rattle.operation.proofs.Singles.{laws}
 use Rattle.operation.proofs.Through.{tp1-through}

@@ -1,5 +1,5 @@
 -- Mapping the letters commutes with single-letter operations.
-use mathlib.Core.Path.{_≡_, refl, sym, ap, subst, _∙_}
+use mathlib.Core.Path.{_≡_, refl, sym, ap, ap₂, subst, _∙_}
 use mathlib.Core.Bool.{Bool, true, false, cond, _&&_, _||_}
 use mathlib.Core.List.{List, [], _∷_, map}
 use Prim.Native.Nat.{ℕ, zero, suc, _+_, _-_, _<_, _≤_}
@@ -9,8 +9,16 @@ use Rattle.std.proofs.shelf.Lists.{length-map}
 use Rattle.operation.specs.declared.operation.Operation.{Operation}
 use Rattle.operation.specs.declared.operation.Operation.the-variants.{Noop, Insert, Delete}
 use Rattle.operation.specs.Edits.{insertAt, deleteAt, site, apply, Fits, puts, strikes, rename}
-use Rattle.operation.specs.Transform.{transform}
+use Rattle.operation.specs.Transform.{transform, mapPassed, behind, through}
 use Rattle.operation.specs.Laws.{singles, Renames}
+
+-- a map that commutes with two transformations commutes with going through a list
+map-through : {O P : Type 0} (h : O → P) (f g : O → O → O) (f′ g′ : P → P → P) → ((a b : O) → f′ (h a) (h b) ≡ h (f a b)) → ((a b : O) → g′ (h a) (h b) ≡ h (g a b)) →
+    (a : O) (bs : List O) → through f′ g′ (h a) (map h bs) ≡ mapPassed h (through f g a bs)
+unfolding through
+map-through h f g f′ g′ p q a [] = refl
+map-through h f g f′ g′ p q a (b ∷ bs) =
+    ap₂ (λ (c : _) (o : _). behind c (through f′ g′ o (map h bs))) (q b a) (p a b) ∙ ap (behind (h (g b a))) (map-through h f g f′ g′ p q (f a b) bs)
 
 module _ {A B : Type 0} (f : A → B) where
   map-insertAt : (p : ℕ) (x : A) (t : List A) → insertAt p (f x) (map f t) ≡ map f (insertAt p x t)
@@ -75,10 +83,8 @@ module _ {A B : Type 0} (f : A → B) where
   strikes-rename (Insert i p x) t = refl
   strikes-rename (Delete i p) t = map-struck p t
 
-  pub renames : Renames (singles A) (singles B) f
+  pub renames : Renames (singles A) (singles B) f (rename f) (map f)
   renames = record {
-    op = rename f;
-    text = map f;
     letters = λ t. refl;
     empty = refl;
     site = site-rename;
@@ -87,6 +93,11 @@ module _ {A B : Type 0} (f : A → B) where
     fits-back = fits-renamed;
     late = transform-rename;
     early = transform-rename;
+    late-through = through-rename;
+    early-through = through-rename;
     puts = puts-rename;
     strikes = strikes-rename;
   }
+    where
+      through-rename : (a : Operation A) (bs : List (Operation A)) → through transform transform (rename f a) (map (rename f) bs) ≡ mapPassed (rename f) (through transform transform a bs)
+      through-rename = map-through (rename f) transform transform transform transform transform-rename transform-rename

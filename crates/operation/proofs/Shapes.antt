@@ -2,14 +2,20 @@
 use mathlib.Core.Path.{_≡_, refl}
 use mathlib.Core.Bool.{cond, _&&_, _||_}
 use mathlib.Core.List.{List, []}
-use Prim.Native.Nat.{ℕ, _+_, _-_, _<_, _≤_}
+use Prim.Native.Nat.{ℕ, _+_, _-_, _^_, _<_, _≤_}
 use native.Mathlib.Omega.{arith}
 use lib.Dec.{eqb, ltb, leb}
 use Rattle.std.proofs.shelf.Tests.{cond-both}
 use Rattle.operation.specs.declared.operation.Operation.{Operation}
 use Rattle.operation.specs.declared.operation.Operation.the-variants.{Noop, Insert, Delete}
 use Rattle.operation.specs.Edits.{site, puts, strikes}
-use Rattle.operation.specs.Transform.{transform, Room}
+use Rattle.operation.specs.Transform.{transform}
+
+-- the place can grow by n and still fit 32 bits
+abbrev pub Room : {A : Type 0} → ℕ → Operation A → Type 0
+Room n (Noop i) = Unit {0}
+Room n (Insert i p x) = p + n < 2 ^ 32
+Room n (Delete i p) = p + n < 2 ^ 32
 
 data Shape {A : Type 0} : Operation A → Operation A → Type 0 where
   nothing : {i : ℕ} → Shape (Noop i) (Noop i)

@@ -18,7 +18,7 @@ side A = record {
 
 pub laws : (A : Type 0) → Laws (singles A)
 laws A = record {
-  nothing = refl;
+  empty-text = refl;
   tp1 = λ a b t m. tp1 a b t (m .differ) (m .fits-a) (m .fits-b);
   late-side = side A;
   early-side = side A;

@@ -6,8 +6,8 @@ use mathlib.Core.List.{List, [], _∷_, map}
 use Prim.Native.Nat.{ℕ}
 use Rattle.operation.specs.declared.operation.Operation.{Operation}
 use Rattle.operation.specs.Letters.{_∈_, Once, Apart, Before}
-use Rattle.operation.specs.Edits.{site, apply, Fits, puts, strikes, rename}
-use Rattle.operation.specs.Transform.{transform, Passed, through}
+use Rattle.operation.specs.Edits.{site, apply, Fits, puts, strikes}
+use Rattle.operation.specs.Transform.{transform, mapPassed, through}
 
 -- A kind of operations, on texts whose letters are of type A.
 pub record Kind (A : Type 0) : Type 1 where
@@ -59,7 +59,7 @@ pub record Side {A : Type 0} (k : Kind A) (f : k .Op → k .Op → k .Op) : Type
       x ∈ k .strikes a t → (x ∈ k .strikes b t → ⊥) → x ∈ k .strikes (f a b) (k .apply b t)
 
 pub record Laws {A : Type 0} (k : Kind A) : Type 0 where
-  pub nothing : k .letters (k .empty) ≡ []
+  pub empty-text : k .letters (k .empty) ≡ []
   -- transformation property 1: either of two may be done first
   pub tp1 : (a b : k .Op) (t : k .Text) → Meet k a b t → k .apply (k .late a b) (k .apply b t) ≡ k .apply (k .early b a) (k .apply a t)
   pub late-side : Side k (k .late)
@@ -78,7 +78,7 @@ pub record Laws {A : Type 0} (k : Kind A) : Type 0 where
 -- Several operations, one after another.
 unfoldable pub applyAll : {A : Type 0} (k : Kind A) → List (k .Op) → k .Text → k .Text
 applyAll k [] t = t
-applyAll k (a ∷ as₁) t = applyAll k as₁ (k .apply a t)
+applyAll k (o ∷ os) t = applyAll k os (k .apply o t)
 
 -- each fits the text that those before it leave, and is of another site than i
 unfoldable pub Others : {A : Type 0} (k : Kind A) → ℕ → List (k .Op) → k .Text → Type 0
@@ -96,10 +96,8 @@ pub record Tp1Through {A : Type 0} (k : Kind A) : Type 0 where
   pub late-through : (a : k .Op) (bs : List (k .Op)) (t : k .Text) → k .Fits a t → Others k (k .site a) bs t → Around k (k .late) (k .early) a bs t
   pub early-through : (a : k .Op) (bs : List (k .Op)) (t : k .Text) → k .Fits a t → Others k (k .site a) bs t → Around k (k .early) (k .late) a bs t
 
--- Mapping the letters by f commutes with all of it.
-pub record Renames {A B : Type 0} (k : Kind A) (m : Kind B) (f : A → B) : Type 0 where
-  pub op : k .Op → m .Op
-  pub text : k .Text → m .Text
+-- Mapping the letters by f commutes with all of it: `op` maps an operation's letters, and `text` a text's.
+pub record Renames {A B : Type 0} (k : Kind A) (m : Kind B) (f : A → B) (op : k .Op → m .Op) (text : k .Text → m .Text) : Type 0 where
   pub letters : (t : k .Text) → m .letters (text t) ≡ map f (k .letters t)
   pub empty : text (k .empty) ≡ m .empty
   pub site : (a : k .Op) → m .site (op a) ≡ k .site a
@@ -108,5 +106,7 @@ pub record Renames {A B : Type 0} (k : Kind A) (m : Kind B) (f : A → B) : Type
   pub fits-back : (a : k .Op) (t : k .Text) → m .Fits (op a) (text t) → k .Fits a t
   pub late : (a b : k .Op) → m .late (op a) (op b) ≡ op (k .late a b)
   pub early : (a b : k .Op) → m .early (op a) (op b) ≡ op (k .early a b)
+  pub late-through : (a : k .Op) (bs : List (k .Op)) → through (m .late) (m .early) (op a) (map op bs) ≡ mapPassed op (through (k .late) (k .early) a bs)
+  pub early-through : (a : k .Op) (bs : List (k .Op)) → through (m .early) (m .late) (op a) (map op bs) ≡ mapPassed op (through (k .early) (k .late) a bs)
   pub puts : (a : k .Op) → m .puts (op a) ≡ map f (k .puts a)
   pub strikes : (a : k .Op) (t : k .Text) → m .strikes (op a) (text t) ≡ map f (k .strikes a t)

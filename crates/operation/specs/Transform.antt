@@ -1,9 +1,8 @@
 -- What an operation becomes that another was done before.
 use mathlib.Core.Bool.{cond, _&&_, _||_}
-use mathlib.Core.List.{List, [], _∷_}
-use Prim.Native.Nat.{ℕ, _+_, _-_, _^_, _<_, min}
+use mathlib.Core.List.{List, [], _∷_, map}
+use Prim.Native.Nat.{ℕ, _+_, _-_, _^_, min}
 use lib.Dec.{eqb, ltb, leb}
-use lib.ListN.{length, getD}
 use Rattle.operation.specs.declared.operation.Operation.{Operation}
 use Rattle.operation.specs.declared.operation.Operation.the-variants.{Noop, Insert, Delete}
 
@@ -35,6 +34,9 @@ pub record Passed (O : Type 0) : Type 0 where
   pub one : O
   pub others : List O
 
+abbrev pub mapPassed : {O P : Type 0} → (O → P) → Passed O → Passed P
+mapPassed f r = record { one = f (r .one); others = map f (r .others) }
+
 abbrev pub behind : {O : Type 0} → O → Passed O → Passed O
 behind b r = record { one = r .one; others = b ∷ r .others }
 
@@ -42,9 +44,3 @@ behind b r = record { one = r .one; others = b ∷ r .others }
 unfoldable pub through : {O : Type 0} → (O → O → O) → (O → O → O) → O → List O → Passed O
 through f g a [] = record { one = a; others = [] }
 through f g a (b ∷ bs) = behind (g b a) (through f g (f a b) bs)
-
--- the place can grow by n and still fit 32 bits
-abbrev pub Room : {A : Type 0} → ℕ → Operation A → Type 0
-Room n (Noop i) = Unit {0}
-Room n (Insert i p x) = p + n < 2 ^ 32
-Room n (Delete i p) = p + n < 2 ^ 32

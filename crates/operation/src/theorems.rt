@@ -1,5 +1,7 @@
 // The theorems on operations of single letters, for letters of any type. Each is the contract of a function that does nothing:
 // without its proof the crate is refused.
+ghost use mathlib.Core.List.{map};
+ghost use Rattle.operation.specs.Edits.{rename};
 ghost use Rattle.operation.specs.Laws.{singles, Laws, Tp1Through, Renames};
 
 // All that theorems over whole runs need to know of operations.
@@ -14,5 +16,5 @@ fn tp1_holds_through_lists<L>()
 
 // Mapping the letters changes nothing but the letters.
 fn renaming_commutes<L, N>()
-    ensures { λ _. ⌜ ((f : L → N) → Renames (singles L) (singles N) f) ⌝ }
+    ensures { λ _. ⌜ ((f : L → N) → Renames (singles L) (singles N) f (rename f) (map f)) ⌝ }
 {}
