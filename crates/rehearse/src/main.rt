@@ -12,7 +12,7 @@ use std::io::BufReader;
 use std::io::BufWriter;
 use std::io::Write;
 use text::refusal::Refusal;
-use text::text::MAX_LETTERS;
+use text::text::RECORD_CAPACITY;
 use text::text::Text;
 
 // Does to the text what the command asks for.
@@ -43,8 +43,8 @@ fn edit(text: &mut Text, command: Command) -> Result<(), Refusal>
 // Plays all lines. The answer is whether each was a command.
 fn run(rt: &LibcRuntime) -> Result<bool, AnyError> {
     let heap = rt.alloc();
-    let mut letters = vec![in heap; 0u32; MAX_LETTERS]?;
-    let mut sites = vec![in heap; 0u8; MAX_LETTERS]?;
+    let mut letters = vec![in heap; 0u32; RECORD_CAPACITY]?;
+    let mut sites = vec![in heap; 0u8; RECORD_CAPACITY]?;
     let mut text = Text::new(letters.as_mut_slice(), sites.as_mut_slice(), 0);
     let mut out = BufWriter::new(rt.stdout());
     let mut joined = false;

@@ -11,10 +11,10 @@ use crate::refusal::Refusal;
 use operation::operation::Operation;
 
 // The highest number of a letter; the lowest is 1.
-pub const MAX_LETTER: u32 = 1_114_111;
+pub const HIGHEST_LETTER: u32 = 1_114_111;
 
 // How many letters a record has at most.
-pub const MAX_LETTERS: usize = 65_536;
+pub const RECORD_CAPACITY: usize = 65_536;
 
 #[derive(Drop)]
 pub struct Text<'a> {
@@ -92,7 +92,7 @@ impl Text<'_> {
                 place,
                 letter,
             } => {
-                if letter == 0 || letter > MAX_LETTER {
+                if letter == 0 || letter > HIGHEST_LETTER {
                     return Err(Refusal::BadLetter);
                 }
                 let place = place as usize;
