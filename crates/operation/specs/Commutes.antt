@@ -1,4 +1,4 @@
--- TP1 as the code keeps it. Its places have 32 bits, so it is said of texts that are shorter than that.
+-- TP1 as the code keeps it. Its places have 32 bits, so it is said of texts whose length, with the list's, is below the highest place.
 use mathlib.Core.Path.{_≡_}
 use mathlib.Core.List.{List}
 use Prim.Native.Nat.{ℕ, _+_, _<_}
