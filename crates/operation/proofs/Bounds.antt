@@ -1,12 +1,12 @@
 -- Where 32 bits suffice, the code's transformation is the table's; so TP1 holds of the code's on every text that is not too long.
 use mathlib.Core.Path.{_≡_, refl, sym, ap, ap₂, subst, _∙_}
 use mathlib.Core.List.{List, [], _∷_}
-use Prim.Native.Nat.{ℕ, zero, suc, _+_, _-_, _^_, _<_, _≤_, min}
+use Prim.Native.Nat.{ℕ, _+_, _<_, _≤_, min}
 use native.Mathlib.Omega.{arith}
 use lib.ListN.{length}
 use Rattle.operation.specs.declared.operation.Operation.{Operation}
 use Rattle.operation.specs.declared.operation.Operation.the-variants.{Noop, Insert, Delete}
-use Rattle.operation.specs.Edits.{insertAt, deleteAt, site, apply, Fits}
+use Rattle.operation.specs.Edits.{site, apply, Fits}
 use Rattle.operation.specs.Transform.{transform, highest, bounded, transformed, Passed, behind, through}
 use Rattle.operation.specs.Laws.{singles, applyAll, Others}
 use Rattle.operation.specs.Commutes.{Commutes}

@@ -81,14 +81,6 @@ module _ {A : Type 0} where
   before-here : (x y z : A) (t : List A) → x ≡ z → y ∈ t → Before x y (z ∷ t)
   before-here x y z t e m = subst (λ k. Before x y (k ∷ t)) e (here m)
 
-  pub before-first : (x y : A) {t : List A} → Before x y t → x ∈ t
-  before-first x y (here m) = List·Memᴰ·head refl
-  before-first x y (there b) = List·Memᴰ·tail (before-first x y b)
-
-  pub before-second : (x y : A) {t : List A} → Before x y t → y ∈ t
-  before-second x y (here m) = List·Memᴰ·tail m
-  before-second x y (there b) = List·Memᴰ·tail (before-second x y b)
-
   insert-order : (p : ℕ) (z x y : A) (t : List A) → Before x y t → Before x y (insertAt p z t)
   unfolding insertAt
   insert-order zero z x y t b = there b

@@ -1,5 +1,5 @@
 -- What an operation does to a text. A text is the list of its letters, of any type.
-use mathlib.Core.List.{List, [], _∷_, map}
+use mathlib.Core.List.{List, [], _∷_}
 use Prim.Native.Nat.{ℕ, zero, suc, _<_, _≤_}
 use lib.ListN.{length, take, drop}
 use Rattle.operation.specs.declared.operation.Operation.{Operation}

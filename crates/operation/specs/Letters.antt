@@ -1,5 +1,4 @@
 -- Letters of a text: which ones stand there, at most once or more often, and in which order.
-use mathlib.Core.Path.{_≡_}
 use mathlib.Core.List.{List, [], _∷_, List·Memᴰ}
 
 infix 50 _∈_

@@ -1,5 +1,5 @@
 -- Numbers and letters as a script writes them.
-use mathlib.Core.Bool.{Bool, true, false, cond, _&&_}
+use mathlib.Core.Bool.{cond, _&&_}
 use mathlib.Core.List.{List, [], _∷_}
 use Prim.Native.Nat.{ℕ, _+_, _-_, _*_, _^_, min}
 use lib.Utf8.{encode, scalar}

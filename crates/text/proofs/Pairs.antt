@@ -6,7 +6,7 @@ use native.Mathlib.Omega.{arith}
 use lib.ListN.{length, take}
 use Rattle.std.proofs.shelf.Lists.{length-take, length-take-le}
 use Rattle.operation.specs.Edits.{insertAt, deleteAt}
-use Rattle.text.specs.Texts.{Letter, paired, numbers, authors}
+use Rattle.text.specs.Texts.{paired, numbers, authors}
 
 pub length-paired : (xs ss : List ℕ) → length (paired xs ss) ≡ min (length xs) (length ss)
 unfolding paired
