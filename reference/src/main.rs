@@ -5,7 +5,7 @@ use std::io::{self, BufWriter, Read, Write};
 use std::process::ExitCode;
 
 use reference::generate::generate;
-use reference::script::Player;
+use reference::player::Player;
 
 const USAGE: &str = "\
 usage: reference play < SCRIPT

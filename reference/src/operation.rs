@@ -1,6 +1,6 @@
 //! Operations, and what one becomes when another was done first.
 
-/// What an operation does to a text.
+/// What an operation does to a text. Letters are given by their numbers.
 #[derive(Clone, Copy, Debug, PartialEq, Eq)]
 pub enum Action {
     Insert { place: u32, letter: u32 },
@@ -51,15 +51,18 @@ pub fn transform(a: Operation, b: Operation) -> Operation {
     Operation { action, ..a }
 }
 
-/// Takes `a` through `list`: what `a` is at the end, and the list as it then stands.
-pub fn transform_through(a: Operation, list: &[Operation]) -> (Operation, Vec<Operation>) {
+/// Takes `a` through `list`, which is moved past it in place, and gives what `a` is at the end.
+pub fn transform_through<'a>(
+    a: Operation,
+    list: impl IntoIterator<Item = &'a mut Operation>,
+) -> Operation {
     let mut a = a;
-    let mut past = Vec::new();
-    for &b in list {
-        past.push(transform(b, a));
-        a = transform(a, b);
+    for b in list {
+        let a_past = transform(a, *b);
+        *b = transform(*b, a);
+        a = a_past;
     }
-    (a, past)
+    a
 }
 
 /// The place after this one. The last place that 32 bits hold has none and stays.
@@ -204,8 +207,8 @@ mod tests {
                     for b in all_operations(first, length(&text)) {
                         let between = after(&text, &[b]);
                         for c in all_operations(second, length(&between)) {
-                            let (a_past, list_past) = transform_through(a, &[b, c]);
-                            assert_eq!(list_past.len(), 2);
+                            let mut list_past = [b, c];
+                            let a_past = transform_through(a, &mut list_past);
                             assert_eq!(
                                 after(&text, &[a, list_past[0], list_past[1]]),
                                 after(&text, &[b, c, a_past]),

@@ -1,97 +1,28 @@
-//! The script player.
+//! The language of scripts.
 
-use std::io::{self, Write};
+use crate::operation::Action;
 
-use crate::operation::{Action, Operation};
-use crate::text::Text;
+/// How many writers there can be.
+pub const WRITERS: usize = 4;
 
-/// The one writer there is.
-const WRITER: u8 = 0;
-
-/// How many letters its text can have.
-const CAPACITY: usize = 65_536;
-
-/// What a line asks for.
-enum Command {
-    Edit(Action),
+/// What a line asks for. Writers are given by their numbers.
+#[derive(Clone, Copy, Debug, PartialEq, Eq)]
+pub enum Command {
+    /// `type` or `strike`.
+    Edit(u8, Action),
+    Take(u8),
+    See(u8),
+    New(u8),
+    Stop,
+    Settle,
     Show,
 }
 
-/// Plays a script line by line.
-#[derive(Default)]
-pub struct Player {
-    /// The writer's text, once it has joined.
-    text: Option<Text>,
-    /// How many lines there have been.
-    lines: u64,
-    /// Whether one of them was no command.
-    failed: bool,
-}
-
-impl Player {
-    /// Plays a whole script.
-    pub fn play(
-        &mut self,
-        script: &[u8],
-        out: &mut impl Write,
-        err: &mut impl Write,
-    ) -> io::Result<()> {
-        // After a last line feed this gives one empty line more, which is passed over.
-        for line in script.split(|&byte| byte == b'\n') {
-            self.play_line(line, out, err)?;
-        }
-        Ok(())
-    }
-
-    /// Plays one line, given without its line feed.
-    pub fn play_line(
-        &mut self,
-        line: &[u8],
-        out: &mut impl Write,
-        err: &mut impl Write,
-    ) -> io::Result<()> {
-        self.lines += 1;
-        match read_line(line) {
-            Ok(None) => Ok(()),
-            Ok(Some(Command::Edit(action))) => self.edit(action, out),
-            Ok(Some(Command::Show)) => self.show(out),
-            Err(message) => {
-                self.failed = true;
-                writeln!(err, "line {}: {message}", self.lines)
-            }
-        }
-    }
-
-    /// Whether a line was no command.
-    pub fn failed(&self) -> bool {
-        self.failed
-    }
-
-    /// How many letters the writer's text has.
-    pub fn length(&self) -> usize {
-        self.text.as_ref().map_or(0, Text::length)
-    }
-
-    fn edit(&mut self, action: Action, out: &mut impl Write) -> io::Result<()> {
-        let site = WRITER;
-        // The writer joins here, even if what it does is then refused.
-        let text = self.text.get_or_insert_with(|| Text::new(CAPACITY));
-        match text.apply(Operation { site, action }) {
-            Ok(()) => Ok(()),
-            Err(refusal) => writeln!(out, "refused {}", refusal as u8),
-        }
-    }
-
-    fn show(&self, out: &mut impl Write) -> io::Result<()> {
-        match &self.text {
-            Some(text) => writeln!(out, "{WRITER}: {text}"),
-            None => Ok(()),
-        }
-    }
-}
+/// What is wrong with a line.
+pub type Fault = &'static str;
 
 /// Reads a line: a command, nothing if it is passed over, or what is wrong with it.
-fn read_line(line: &[u8]) -> Result<Option<Command>, &'static str> {
+pub fn read_line(line: &[u8]) -> Result<Option<Command>, Fault> {
     let words: Vec<&[u8]> = line
         .split(|&byte| is_blank(byte))
         .filter(|word| !word.is_empty())
@@ -105,51 +36,64 @@ fn read_line(line: &[u8]) -> Result<Option<Command>, &'static str> {
     let command = match first {
         b"type" => read_type(rest)?,
         b"strike" => read_strike(rest)?,
-        b"show" => read_show(rest)?,
+        b"take" => Command::Take(only_writer(rest, "take wants a writer")?),
+        b"see" => Command::See(only_writer(rest, "see wants a writer")?),
+        b"new" => Command::New(only_writer(rest, "new wants a writer")?),
+        b"stop" => alone(rest, Command::Stop, "stop wants no word after it")?,
+        b"settle" => alone(rest, Command::Settle, "settle wants no word after it")?,
+        b"show" => alone(rest, Command::Show, "show wants no word after it")?,
         _ => return Err("no such command"),
     };
     Ok(Some(command))
 }
 
-fn read_type(words: &[&[u8]]) -> Result<Command, &'static str> {
+fn read_type(words: &[&[u8]]) -> Result<Command, Fault> {
     let &[writer, place, letter] = words else {
         return Err("type wants a writer, a place and a letter");
     };
-    read_writer(writer)?;
+    let writer = read_writer(writer)?;
     let place = read_place(place)?;
     let letter = read_letter(letter)?;
-    Ok(Command::Edit(Action::Insert { place, letter }))
+    Ok(Command::Edit(writer, Action::Insert { place, letter }))
 }
 
-fn read_strike(words: &[&[u8]]) -> Result<Command, &'static str> {
+fn read_strike(words: &[&[u8]]) -> Result<Command, Fault> {
     let &[writer, place] = words else {
         return Err("strike wants a writer and a place");
     };
-    read_writer(writer)?;
+    let writer = read_writer(writer)?;
     let place = read_place(place)?;
-    Ok(Command::Edit(Action::Delete { place }))
+    Ok(Command::Edit(writer, Action::Delete { place }))
 }
 
-fn read_show(words: &[&[u8]]) -> Result<Command, &'static str> {
+/// The writer, which must be the only word.
+fn only_writer(words: &[&[u8]], otherwise: Fault) -> Result<u8, Fault> {
     match words {
-        [] => Ok(Command::Show),
-        _ => Err("show wants no word after it"),
+        [writer] => read_writer(writer),
+        _ => Err(otherwise),
     }
 }
 
-fn read_writer(word: &[u8]) -> Result<(), &'static str> {
-    if decimal(word) == Some(u32::from(WRITER)) {
-        Ok(())
-    } else {
-        Err("no such writer")
+/// The command, if no word is after it.
+fn alone(words: &[&[u8]], command: Command, otherwise: Fault) -> Result<Command, Fault> {
+    match words {
+        [] => Ok(command),
+        _ => Err(otherwise),
     }
 }
 
-fn read_place(word: &[u8]) -> Result<u32, &'static str> {
+fn read_writer(word: &[u8]) -> Result<u8, Fault> {
+    decimal(word)
+        .and_then(|number| u8::try_from(number).ok())
+        .filter(|&number| usize::from(number) < WRITERS)
+        .ok_or("no such writer")
+}
+
+fn read_place(word: &[u8]) -> Result<u32, Fault> {
     decimal(word).ok_or("the place is no decimal number")
 }
 
-fn read_letter(word: &[u8]) -> Result<u32, &'static str> {
+fn read_letter(word: &[u8]) -> Result<u32, Fault> {
     decimal(word)
         .or_else(|| one_character(word))
         .ok_or("the letter is neither a decimal number nor one character")
@@ -186,78 +130,89 @@ mod tests {
     use super::*;
 
     #[test]
-    fn plays_lines() {
-        const NO_LETTER: &str = "the letter is neither a decimal number nor one character";
-
-        // One line after another, with what each prints on either stream.
-        let table: [(&[u8], &str, &str); 37] = [
-            (b"show", "", ""),
-            (b"type 1 0 a", "", "no such writer"),
-            (b"type 0 x a", "", "the place is no decimal number"),
-            (b"show", "", ""),
-            (b"strike 0 0", "refused 3", ""),
-            (b"show", "0: ", ""),
-            (b"type 0 0 a", "", ""),
-            (b"\t type  0\r1 \xc3\xa9\r", "", ""),
-            (b"type 00 02 0092", "", ""),
-            (b"type 0 3 #", "", ""),
-            (b"show", "0: a\u{e9}\\u{5c}#", ""),
-            (b"type 0 5 a", "refused 3", ""),
-            (b"type 0 5 0", "refused 1", ""),
-            (b"type 0 0 \0", "refused 1", ""),
-            (b"type 0 0 1114112", "refused 1", ""),
-            (b"type 0 0 4294967393", "refused 1", ""),
-            (b"type 0 4294967296 a", "refused 3", ""),
-            (b"strike 0 18446744073709551616", "refused 3", ""),
-            (b"strike 0 0", "", ""),
-            (b"type 0 0 1114111", "", ""),
-            (b"type 0 0 57343", "", ""),
-            (b"type 0 0 160", "", ""),
-            (b"type 0 0 \x0c", "", ""),
+    fn reads_commands() {
+        let insert = |place, letter| Action::Insert { place, letter };
+        let delete = |place| Action::Delete { place };
+        let table: [(&[u8], Option<Command>); 17] = [
+            (b"", None),
+            (b" \t\r", None),
+            (b"#", None),
+            (b" # type", None),
+            (b"type 0 1 a", Some(Command::Edit(0, insert(1, 97)))),
             (
-                b"show",
-                "0: \\u{c}\\u{a0}\\u{dfff}\u{10ffff}\u{e9}\\u{5c}#",
-                "",
+                b"\t type  3\r1 \xc3\xa9\r",
+                Some(Command::Edit(3, insert(1, 0xe9))),
             ),
-            (b"", "", ""),
-            (b" \t\r", "", ""),
-            (b"#show x", "", ""),
-            (b"Show", "", "no such command"),
-            (b"\xff", "", "no such command"),
-            (b"type 1 x", "", "type wants a writer, a place and a letter"),
-            (b"strike 1 x y", "", "strike wants a writer and a place"),
-            (b"show 0", "", "show wants no word after it"),
-            (b"type 4294967296 x ab", "", "no such writer"),
-            (b"type 0 +1 ab", "", "the place is no decimal number"),
-            (b"type 0 9 ab", "", NO_LETTER),
-            (b"type 0 9 \xed\xa0\x80", "", NO_LETTER),
-            (b"type 0 9 -1", "", NO_LETTER),
+            (b"type 02 007 0092", Some(Command::Edit(2, insert(7, 92)))),
+            (b"type 0 0 #", Some(Command::Edit(0, insert(0, 35)))),
+            (b"type 0 0 \0", Some(Command::Edit(0, insert(0, 0)))),
+            (
+                b"type 0 4294967296 99999999999999999999",
+                Some(Command::Edit(0, insert(u32::MAX, u32::MAX))),
+            ),
+            (b"strike 1 5", Some(Command::Edit(1, delete(5)))),
+            (b"take 2", Some(Command::Take(2))),
+            (b"see 3", Some(Command::See(3))),
+            (b"new 0", Some(Command::New(0))),
+            (b"stop", Some(Command::Stop)),
+            (b"settle ", Some(Command::Settle)),
+            (b"show", Some(Command::Show)),
         ];
-        let mut player = Player::default();
-        for (number, (line, out, err)) in (1..).zip(table) {
-            let (mut played_out, mut played_err) = (Vec::new(), Vec::new());
-            player
-                .play_line(line, &mut played_out, &mut played_err)
-                .unwrap();
-            let ended = |line: &str| match line {
-                "" => String::new(),
-                _ => format!("{line}\n"),
-            };
-            let err = match err {
-                "" => String::new(),
-                _ => format!("line {number}: {err}"),
-            };
-            assert_eq!(
-                String::from_utf8(played_out).unwrap(),
-                ended(out),
-                "line {number}"
-            );
-            assert_eq!(
-                String::from_utf8(played_err).unwrap(),
-                ended(&err),
-                "line {number}"
-            );
+        for (line, command) in table {
+            assert_eq!(read_line(line), Ok(command), "{}", line.escape_ascii());
         }
-        assert!(player.failed());
+    }
+
+    #[test]
+    fn says_what_is_wrong_first() {
+        let no_letter = "the letter is neither a decimal number nor one character";
+        let table: [(&[u8], Fault); 40] = [
+            (b"Show", "no such command"),
+            (b"\xff", "no such command"),
+            (b"stop#", "no such command"),
+            (b"0", "no such command"),
+            (b"type", "type wants a writer, a place and a letter"),
+            (b"type 4 x", "type wants a writer, a place and a letter"),
+            (
+                b"type 4 x ab c",
+                "type wants a writer, a place and a letter",
+            ),
+            (b"strike 4", "strike wants a writer and a place"),
+            (b"strike 4 x y", "strike wants a writer and a place"),
+            (b"take", "take wants a writer"),
+            (b"take 0 1", "take wants a writer"),
+            (b"take 4 x", "take wants a writer"),
+            (b"see", "see wants a writer"),
+            (b"see 0 0", "see wants a writer"),
+            (b"new", "new wants a writer"),
+            (b"new 0 #", "new wants a writer"),
+            (b"stop 0", "stop wants no word after it"),
+            (b"settle 0", "settle wants no word after it"),
+            (b"show 0", "show wants no word after it"),
+            (b"show #", "show wants no word after it"),
+            (b"type 4 x ab", "no such writer"),
+            (b"type -0 x ab", "no such writer"),
+            (b"type 256 0 a", "no such writer"),
+            (b"type 4294967296 0 a", "no such writer"),
+            (b"type x 0 a", "no such writer"),
+            (b"strike 4 x", "no such writer"),
+            (b"strike 18446744073709551616 0", "no such writer"),
+            (b"take 4", "no such writer"),
+            (b"take x", "no such writer"),
+            (b"see 16", "no such writer"),
+            (b"new 65536", "no such writer"),
+            (b"new +1", "no such writer"),
+            (b"type 0 +1 ab", "the place is no decimal number"),
+            (b"type 3 1.0 a", "the place is no decimal number"),
+            (b"strike 0 x", "the place is no decimal number"),
+            (b"type 0 9 ab", no_letter),
+            (b"type 0 9 -1", no_letter),
+            (b"type 0 9 \xed\xa0\x80", no_letter),
+            (b"type 0 9 \xc1\xa1", no_letter),
+            (b"type 0 9 \xf4\x90\x80\x80", no_letter),
+        ];
+        for (line, fault) in table {
+            assert_eq!(read_line(line), Err(fault), "{}", line.escape_ascii());
+        }
     }
 }

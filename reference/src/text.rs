@@ -3,9 +3,13 @@
 use std::fmt;
 
 use crate::operation::{Action, Operation};
+use crate::refusal::Refusal;
 
 /// The highest number that a letter can have.
 pub const LAST_LETTER: u32 = 1_114_111;
+
+/// How many letters the server's text can have.
+pub const RECORD: usize = 65_536;
 
 /// A letter and the site of the client that typed it.
 #[derive(Clone, Copy, Debug, PartialEq, Eq)]
@@ -21,19 +25,13 @@ pub struct Text {
     capacity: usize,
 }
 
-/// Why an operation was not done. Each reason has its number.
-#[derive(Clone, Copy, Debug, PartialEq, Eq)]
-pub enum Refusal {
-    Letter = 1,
-    Place = 3,
-    Full = 7,
-}
-
 impl Text {
     /// An empty text.
     pub fn new(capacity: usize) -> Text {
-        let letters = Vec::new();
-        Text { letters, capacity }
+        Text {
+            letters: Vec::new(),
+            capacity,
+        }
     }
 
     /// A text with these letters, all typed at one site.
@@ -47,39 +45,55 @@ impl Text {
         Text { letters, capacity }
     }
 
+    /// The same letters, with another capacity.
+    pub fn with_capacity(self, capacity: usize) -> Text {
+        assert!(self.letters.len() <= capacity);
+        Text { capacity, ..self }
+    }
+
     /// How many letters there are.
     pub fn length(&self) -> usize {
         self.letters.len()
     }
 
-    /// Does the operation, or says why not and changes nothing.
-    pub fn apply(&mut self, operation: Operation) -> Result<(), Refusal> {
-        match operation.action {
-            Action::Insert { place, letter } => self.insert(place as usize, letter, operation.site),
-            Action::Delete { place } => self.delete(place as usize),
-            Action::Nothing => Ok(()),
-        }
-    }
-
-    fn insert(&mut self, place: usize, number: u32, site: u8) -> Result<(), Refusal> {
-        if number == 0 || number > LAST_LETTER {
+    /// Whether the operation has a good letter, if it inserts one, and a good place.
+    pub fn fits(&self, operation: Operation) -> Result<(), Refusal> {
+        let (letter_is_good, place_is_good) = match operation.action {
+            Action::Insert { place, letter } => (
+                (1..=LAST_LETTER).contains(&letter),
+                place as usize <= self.letters.len(),
+            ),
+            Action::Delete { place } => (true, (place as usize) < self.letters.len()),
+            Action::Nothing => (true, true),
+        };
+        if !letter_is_good {
             return Err(Refusal::Letter);
         }
-        if place > self.letters.len() {
+        if !place_is_good {
             return Err(Refusal::Place);
         }
-        if self.letters.len() == self.capacity {
-            return Err(Refusal::Full);
-        }
-        self.letters.insert(place, Letter { number, site });
         Ok(())
     }
 
-    fn delete(&mut self, place: usize) -> Result<(), Refusal> {
-        if place >= self.letters.len() {
-            return Err(Refusal::Place);
+    /// Does the operation, or says why not and changes nothing.
+    pub fn apply(&mut self, operation: Operation) -> Result<(), Refusal> {
+        self.fits(operation)?;
+        match operation.action {
+            Action::Insert { place, letter } => {
+                if self.letters.len() >= self.capacity {
+                    return Err(Refusal::Full);
+                }
+                let letter = Letter {
+                    number: letter,
+                    site: operation.site,
+                };
+                self.letters.insert(place as usize, letter);
+            }
+            Action::Delete { place } => {
+                self.letters.remove(place as usize);
+            }
+            Action::Nothing => (),
         }
-        self.letters.remove(place);
         Ok(())
     }
 }

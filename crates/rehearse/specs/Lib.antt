@@ -1,1 +1,1 @@
-pub mod Edit
+pub mod Asked

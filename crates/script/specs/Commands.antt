@@ -1,6 +1,6 @@
 -- A line of a script, read as a command.
 use mathlib.Core.Bool.{Bool, cond, _||_, not}
-use mathlib.Core.List.{List}
+use mathlib.Core.List.{List, [], _∷_}
 use Prim.Native.Nat.{ℕ}
 use lib.Chars.{codes}
 use lib.Dec.{eqb, ltb}
@@ -24,23 +24,35 @@ abbrev pub messageOf : Fault → List ℕ
 messageOf UnknownCommand = codes "no such command"
 messageOf (Words verb.Type) = codes "type wants a writer, a place and a letter"
 messageOf (Words verb.Strike) = codes "strike wants a writer and a place"
+messageOf (Words verb.Take) = codes "take wants a writer"
+messageOf (Words verb.See) = codes "see wants a writer"
+messageOf (Words verb.New) = codes "new wants a writer"
+messageOf (Words verb.Stop) = codes "stop wants no word after it"
+messageOf (Words verb.Settle) = codes "settle wants no word after it"
 messageOf (Words verb.Show) = codes "show wants no word after it"
 messageOf NoWriter = codes "no such writer"
 messageOf BadPlace = codes "the place is no decimal number"
 messageOf BadLetter = codes "the letter is neither a decimal number nor one character"
 
-abbrev pub verbOf : List ℕ → Option Verb
-verbOf w = cond (sameBytes w (codes "type")) (Some verb.Type) (cond (sameBytes w (codes "strike")) (Some verb.Strike) (cond (sameBytes w (codes "show")) (Some verb.Show) None))
+-- the verb that a list of names has for a word
+abbrev pub named : List (List ℕ × Verb) → List ℕ → Result Verb Fault
+named [] w = Err UnknownCommand
+named ((name, v) ∷ more) w = cond (sameBytes w name) (Ok v) (named more w)
+
+abbrev pub verbOf : List ℕ → Result Verb Fault
+verbOf = named (
+    (codes "type", verb.Type) ∷ (codes "strike", verb.Strike) ∷ (codes "take", verb.Take) ∷ (codes "see", verb.See)
+    ∷ (codes "new", verb.New) ∷ (codes "stop", verb.Stop) ∷ (codes "settle", verb.Settle) ∷ (codes "show", verb.Show) ∷ [])
 
 -- the first value, and with it the next; or the first fault
 abbrev pub with : {A B : Type 0} → Result A Fault → (A → Result B Fault) → Result B Fault
 with (Ok x) f = f x
 with (Err e) f = Err e
 
--- a writer's number: in this version 0 is the only one
+-- a writer's number: 0 to 3
 abbrev pub present : Option ℕ → Result ℕ Fault
 present None = Err NoWriter
-present (Some n) = cond (ltb n 1) (Ok n) (Err NoWriter)
+present (Some n) = cond (ltb n 4) (Ok n) (Err NoWriter)
 
 abbrev pub writerOf : List ℕ → Result ℕ Fault
 writerOf w = present (decimalOf w)
@@ -67,16 +79,24 @@ abbrev pub strikeOf : List ℕ → Result Command Fault
 strikeOf l = cond (empty (firstWord (restOf l)) || not (empty (firstWord (restOf (restOf l))))) (Err (Words verb.Strike))
     (with (writerOf (firstWord l)) (λ w. with (placeOf (firstWord (restOf l))) (λ p. Ok (command.Strike w p))))
 
-abbrev pub showOf : List ℕ → Result Command Fault
-showOf l = cond (empty (firstWord l)) (Ok command.Show) (Err (Words verb.Show))
+abbrev pub oneWriter : Verb → List ℕ → Result ℕ Fault
+oneWriter v l = cond (empty (firstWord l) || not (empty (firstWord (restOf l)))) (Err (Words v)) (writerOf (firstWord l))
 
--- what a command's word asks to be read behind it
-abbrev pub readAs : Option Verb → List ℕ → Result (Option Command) Fault
-readAs None l = Err UnknownCommand
-readAs (Some verb.Type) l = with (typeOf l) (λ c. Ok (Some c))
-readAs (Some verb.Strike) l = with (strikeOf l) (λ c. Ok (Some c))
-readAs (Some verb.Show) l = with (showOf l) (λ c. Ok (Some c))
+abbrev pub nothing : Verb → List ℕ → Result (Unit {0}) Fault
+nothing v l = cond (empty (firstWord l)) (Ok tt) (Err (Words v))
+
+-- what a verb asks to be read behind it
+abbrev pub readAs : Verb → List ℕ → Result Command Fault
+readAs verb.Type l = typeOf l
+readAs verb.Strike l = strikeOf l
+readAs verb.Take l = with (oneWriter verb.Take l) (λ w. Ok (command.Take w))
+readAs verb.See l = with (oneWriter verb.See l) (λ w. Ok (command.See w))
+readAs verb.New l = with (oneWriter verb.New l) (λ w. Ok (command.New w))
+readAs verb.Stop l = with (nothing verb.Stop l) (λ _. Ok command.Stop)
+readAs verb.Settle l = with (nothing verb.Settle l) (λ _. Ok command.Settle)
+readAs verb.Show l = with (nothing verb.Show l) (λ _. Ok command.Show)
 
 -- a line with no word asks for nothing, and neither does one whose first word begins with # (35)
 abbrev pub commandOf : List ℕ → Result (Option Command) Fault
-commandOf l = cond (empty (firstWord l) || eqb (getD (firstWord l) 0 0) 35) (Ok None) (readAs (verbOf (firstWord l)) (restOf l))
+commandOf l = cond (empty (firstWord l) || eqb (getD (firstWord l) 0 0) 35) (Ok None)
+    (with (verbOf (firstWord l)) (λ v. with (readAs v (restOf l)) (λ c. Ok (Some c))))

@@ -1,7 +1,7 @@
 // A line of a script, read as a command.
 ghost use mathlib.Core.Path.{_≡_};
 ghost use Rattle.std.specs.shelf.Text.{sameBytes};
-ghost use Rattle.script.specs.Commands.{verbOf, writerOf, placeOf, letterOf, typeOf, strikeOf, showOf, commandOf};
+ghost use Rattle.script.specs.Commands.{verbOf, writerOf, placeOf, letterOf, typeOf, strikeOf, oneWriter, nothing, readAs, commandOf};
 use crate::command::Command;
 use crate::command::Fault;
 use crate::command::Verb;
@@ -16,17 +16,27 @@ fn is_word(word: &[u8], name: &[u8]) -> bool
     word == name
 }
 
-fn verb(word: &[u8]) -> Option<Verb>
+fn verb(word: &[u8]) -> Result<Verb, Fault>
     ensures { λ r. ⌜ r ≡ verbOf (now (word .entry)) ⌝ }
 {
     if is_word(word, b"type") {
-        Some(Verb::Type)
+        Ok(Verb::Type)
     } else if is_word(word, b"strike") {
-        Some(Verb::Strike)
+        Ok(Verb::Strike)
+    } else if is_word(word, b"take") {
+        Ok(Verb::Take)
+    } else if is_word(word, b"see") {
+        Ok(Verb::See)
+    } else if is_word(word, b"new") {
+        Ok(Verb::New)
+    } else if is_word(word, b"stop") {
+        Ok(Verb::Stop)
+    } else if is_word(word, b"settle") {
+        Ok(Verb::Settle)
     } else if is_word(word, b"show") {
-        Some(Verb::Show)
+        Ok(Verb::Show)
     } else {
-        None
+        Err(Fault::UnknownCommand)
     }
 }
 
@@ -91,15 +101,58 @@ fn parse_strike(rest: &[u8]) -> Result<Command, Fault>
     Ok(Command::Strike { writer, place })
 }
 
-// What follows `show`.
-fn parse_show(rest: &[u8]) -> Result<Command, Fault>
-    ensures { λ r. ⌜ r ≡ showOf (now (rest .entry)) ⌝ }
+// What follows a verb that wants one writer.
+fn parse_writer(rest: &[u8], verb: Verb) -> Result<u8, Fault>
+    ensures { λ r. ⌜ r ≡ oneWriter verb (now (rest .entry)) ⌝ }
+{
+    let (first, rest) = next_word(rest);
+    let (second, _) = next_word(rest);
+    if first.is_empty() || !second.is_empty() {
+        return Err(Fault::Words(verb));
+    }
+    writer(first)
+}
+
+// What follows a verb that wants no word after it.
+fn parse_nothing(rest: &[u8], verb: Verb) -> Result<(), Fault>
+    ensures { λ r. ⌜ r ≡ nothing verb (now (rest .entry)) ⌝ }
 {
     let (first, _) = next_word(rest);
     if first.is_empty() {
-        Ok(Command::Show)
+        Ok(())
     } else {
-        Err(Fault::Words(Verb::Show))
+        Err(Fault::Words(verb))
+    }
+}
+
+// What follows a verb, read as it wants.
+fn parse_rest(rest: &[u8], verb: Verb) -> Result<Command, Fault>
+    ensures { λ r. ⌜ r ≡ readAs verb (now (rest .entry)) ⌝ }
+{
+    match verb {
+        Verb::Type => parse_type(rest),
+        Verb::Strike => parse_strike(rest),
+        Verb::Take => Ok(Command::Take {
+            writer: parse_writer(rest, verb)?,
+        }),
+        Verb::See => Ok(Command::See {
+            writer: parse_writer(rest, verb)?,
+        }),
+        Verb::New => Ok(Command::New {
+            writer: parse_writer(rest, verb)?,
+        }),
+        Verb::Stop => {
+            parse_nothing(rest, verb)?;
+            Ok(Command::Stop)
+        }
+        Verb::Settle => {
+            parse_nothing(rest, verb)?;
+            Ok(Command::Settle)
+        }
+        Verb::Show => {
+            parse_nothing(rest, verb)?;
+            Ok(Command::Show)
+        }
     }
 }
 
@@ -111,11 +164,7 @@ pub fn parse(line: &[u8]) -> Result<Option<Command>, Fault>
     if first.is_empty() || first[0] == b'#' {
         return Ok(None);
     }
-    let command = match verb(first) {
-        Some(Verb::Type) => parse_type(rest)?,
-        Some(Verb::Strike) => parse_strike(rest)?,
-        Some(Verb::Show) => parse_show(rest)?,
-        None => return Err(Fault::UnknownCommand),
-    };
+    let verb = verb(first)?;
+    let command = parse_rest(rest, verb)?;
     Ok(Some(command))
 }

@@ -1,5 +1,5 @@
 -- What moving a part of a list by one leaves.
-use mathlib.Core.Path.{_≡_, refl, sym, ap, _∙_}
+use mathlib.Core.Path.{_≡_, refl, sym, ap, ap₂, _∙_}
 use mathlib.Core.List.{List, [], _∷_, _++_}
 use Prim.Native.Nat.{ℕ, zero, suc, _+_, _-_, _<_, _≤_}
 use native.Mathlib.Omega.{arith}
@@ -67,3 +67,12 @@ module _ {X : Type 0} where
       ap (take (n - 1)) parts ∙ take-at (take p s ++ rest) (last ++ post) (n - 1) long
       ∙ sym (deleteAt-is p (take n s) (omega arith) ∙ ap (λ z. z ++ drop (suc p) (take n s)) (take-take p n s (omega arith))
       ∙ ap (λ z. take p s ++ z) (ap (λ z. drop z (take n s)) (sym next) ∙ sym (drop-drop 1 p (take n s)) ∙ ap (drop 1) (sym (between-is s p n))))
+
+  -- n of one list over the front of another
+  pub front-filled : (n : ℕ) (q xs ys zs : List X) → q ≡ take (n - 0) zs → zs ≡ xs → n ≤ length xs → n ≤ length ys →
+      (length (q ++ drop (n - 0) ys) ≡ length ys) × (take n (q ++ drop (n - 0) ys) ≡ take n xs)
+  front-filled n q xs ys zs e f h k =
+      let z : n - 0 ≡ n = omega arith in
+      let front : q ≡ take n xs = e ∙ ap₂ take z f in
+      let long : length q ≡ n = ap length front ∙ length-take-le n xs h in
+      (omega (arith, length-append q (drop (n - 0) ys), length-drop (n - 0) ys), take-at q (drop (n - 0) ys) n long ∙ front)

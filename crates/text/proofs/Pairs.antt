@@ -1,5 +1,5 @@
 -- Letters and sites side by side are edited as one text.
-use mathlib.Core.Path.{_≡_, refl, sym, ap, _∙_}
+use mathlib.Core.Path.{_≡_, refl, sym, ap, ap₂, _∙_}
 use mathlib.Core.List.{List, [], _∷_}
 use Prim.Native.Nat.{ℕ, zero, suc, _+_, _-_, _<_, _≤_, min}
 use native.Mathlib.Omega.{arith}
@@ -50,7 +50,7 @@ authors-paired (x ∷ xs) [] h = absurd (omega arith)
 authors-paired (x ∷ xs) (s ∷ ss) h = ap (_∷_ s) (authors-paired xs ss (omega arith))
 
 -- a front is as long as it can be
-take-length : {X : Type 0} (m : ℕ) (z : List X) → take (length (take m z)) z ≡ take m z
+pub take-length : {X : Type 0} (m : ℕ) (z : List X) → take (length (take m z)) z ≡ take m z
 take-length zero z = refl
 take-length (suc m) [] = refl
 take-length (suc m) (x ∷ z) = ap (_∷_ x) (take-length m z)
@@ -75,18 +75,23 @@ module _ (len n : ℕ) (xs ss : List ℕ) (long : n ≡ length (take len (paired
   pub contents-authors : take n ss ≡ authors (take len (paired xs ss))
   contents-authors = sym (authors-paired (take n xs) (take n ss) level) ∙ ap authors fronts
 
-  pub contents-inserted : (ys rs : List ℕ) (p x s : ℕ) → p ≤ n → take (n + 1) ys ≡ insertAt p x (take n xs) → take (n + 1) rs ≡ insertAt p s (take n ss) →
-      take (n + 1) (paired ys rs) ≡ insertAt p (record { number = x; site = s }) (take len (paired xs ss))
-  contents-inserted ys rs p x s h e f =
-      let a = length-take-le n xs (within .0) in
-      let b = length-take-le n ss (within .1) in
-      take-paired (n + 1) ys rs ∙ ap (λ z. paired z (take (n + 1) rs)) e ∙ ap (paired (insertAt p x (take n xs))) f
-      ∙ paired-insertAt p x s (take n xs) (take n ss) (omega arith) (omega arith) ∙ ap (insertAt p (record { number = x; site = s })) fronts
+  -- another two lists with the same fronts
+  pub contents-copied : (ys rs : List ℕ) → take n ys ≡ take n xs → take n rs ≡ take n ss → take n (paired ys rs) ≡ take len (paired xs ss)
+  contents-copied ys rs e f = take-paired n ys rs ∙ ap₂ paired e f ∙ fronts
 
-  pub contents-deleted : (ys rs : List ℕ) (p : ℕ) → p < n → take (n - 1) ys ≡ deleteAt p (take n xs) → take (n - 1) rs ≡ deleteAt p (take n ss) →
-      take (n - 1) (paired ys rs) ≡ deleteAt p (take len (paired xs ss))
-  contents-deleted ys rs p h e f =
-      let a = length-take-le n xs (within .0) in
-      let b = length-take-le n ss (within .1) in
-      take-paired (n - 1) ys rs ∙ ap (λ z. paired z (take (n - 1) rs)) e ∙ ap (paired (deleteAt p (take n xs))) f
-      ∙ paired-deleteAt p (take n xs) (take n ss) (omega arith) (omega arith) ∙ ap (deleteAt p) fronts
+-- both lists edited at one place
+pub pairs-inserted : (n : ℕ) (xs ss ys rs : List ℕ) (p x s : ℕ) → p ≤ n → n ≤ length xs → n ≤ length ss →
+    take (n + 1) ys ≡ insertAt p x (take n xs) → take (n + 1) rs ≡ insertAt p s (take n ss) →
+    take (n + 1) (paired ys rs) ≡ insertAt p (record { number = x; site = s }) (take n (paired xs ss))
+pairs-inserted n xs ss ys rs p x s h k l e f =
+    let a = length-take-le n xs k in
+    let b = length-take-le n ss l in
+    take-paired (n + 1) ys rs ∙ ap₂ paired e f ∙ paired-insertAt p x s (take n xs) (take n ss) (omega arith) (omega arith)
+    ∙ ap (insertAt p (record { number = x; site = s })) (sym (take-paired n xs ss))
+
+pub pairs-deleted : (n : ℕ) (xs ss ys rs : List ℕ) (p : ℕ) → p < n → n ≤ length xs → n ≤ length ss →
+    take (n - 1) ys ≡ deleteAt p (take n xs) → take (n - 1) rs ≡ deleteAt p (take n ss) → take (n - 1) (paired ys rs) ≡ deleteAt p (take n (paired xs ss))
+pairs-deleted n xs ss ys rs p h k l e f =
+    let a = length-take-le n xs k in
+    let b = length-take-le n ss l in
+    take-paired (n - 1) ys rs ∙ ap₂ paired e f ∙ paired-deleteAt p (take n xs) (take n ss) (omega arith) (omega arith) ∙ ap (deleteAt p) (sym (take-paired n xs ss))

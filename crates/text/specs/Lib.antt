@@ -1,2 +1,4 @@
 pub mod Refusals
 pub mod Texts
+pub mod Documents
+pub mod Coded

@@ -1,11 +1,9 @@
--- A text in memory, and what applying an operation to it does or why it is refused.
-use mathlib.Core.Path.{_≡_}
+-- A text, and what applying an operation to it does or why it is refused.
 use mathlib.Core.Bool.{cond, _&&_}
 use mathlib.Core.List.{List, [], _∷_, map}
-use Prim.Native.Nat.{ℕ, min}
-use denote.Ref.{name}
+use Prim.Native.Nat.{ℕ}
 use lib.Dec.{ltb, leb}
-use lib.ListN.{length, take}
+use lib.ListN.{length}
 use Rattle.std.specs.declared.option.Option.{Option}
 use Rattle.std.specs.declared.option.Option.the-variants.{Some, None}
 use Rattle.std.specs.declared.result.Result.{Result}
@@ -15,7 +13,6 @@ use Rattle.operation.specs.declared.operation.Operation.the-variants.{Noop, Ins
 use Rattle.operation.specs.Edits.{apply}
 use Rattle.text.specs.declared.refusal.Refusal.{Refusal}
 use Rattle.text.specs.declared.refusal.Refusal.the-variants.{BadLetter, BeyondText, TextFull}
-use Rattle.text.specs.declared.text.Text.{Text}
 
 -- a letter with the site that typed it
 pub record Letter : Type 0 where
@@ -28,14 +25,6 @@ paired [] ss = []
 paired (x ∷ xs) [] = []
 paired (x ∷ xs) (s ∷ ss) = record { number = x; site = s } ∷ paired xs ss
 
--- the letters of a text in memory
-abbrev pub contents : Text → List Letter
-contents t = take (t .len) (paired (t .letters .now) (t .sites .now))
-
--- how many letters the memory has room for
-abbrev pub room : Text → ℕ
-room t = min (length (t .letters .now)) (length (t .sites .now))
-
 -- the numbers of letters, and their sites
 abbrev pub numbers : List Letter → List ℕ
 numbers t = map (λ (l : Letter). l .number) t
@@ -43,24 +32,20 @@ numbers t = map (λ (l : Letter). l .number) t
 abbrev pub authors : List Letter → List ℕ
 authors t = map (λ (l : Letter). l .site) t
 
--- the memory is the same, and as long
-pub record Lent (was now : Text) : Type 0 where
-  pub letters : name (now .letters) ≡ name (was .letters)
-  pub sites : name (now .sites) ≡ name (was .sites)
-  pub room-stays : room now ≡ room was
-
 -- an operation whose letter is of its site
 abbrev pub signed : Operation ℕ → Operation Letter
 signed (Noop i) = Noop i
 signed (Insert i p x) = Insert i p (record { number = x; site = i })
 signed (Delete i p) = Delete i p
 
--- why an operation is refused in room for n letters, the lowest number first
+-- why an operation is refused in a text of m letters with room for n, the lowest number first
+abbrev pub refusalAt : ℕ → ℕ → Operation ℕ → Option Refusal
+refusalAt n m (Noop i) = None
+refusalAt n m (Insert i p x) = cond (leb 1 x && leb x 1114111) (cond (leb p m) (cond (ltb m n) None (Some TextFull)) (Some BeyondText)) (Some BadLetter)
+refusalAt n m (Delete i p) = cond (ltb p m) None (Some BeyondText)
+
 abbrev pub refusal : ℕ → Operation ℕ → List Letter → Option Refusal
-refusal n (Noop i) t = None
-refusal n (Insert i p x) t =
-    cond (leb 1 x && leb x 1114111) (cond (leb p (length t)) (cond (ltb (length t) n) None (Some TextFull)) (Some BeyondText)) (Some BadLetter)
-refusal n (Delete i p) t = cond (ltb p (length t)) None (Some BeyondText)
+refusal n op t = refusalAt n (length t) op
 
 abbrev pub refused : {A : Type 0} → Result A Refusal → Option Refusal
 refused (Ok x) = None

@@ -1,6 +1,7 @@
-// A text in lent memory, and operations on it.
+// Texts, and operations on them.
+pub mod document;
 mod gap;
+mod lent;
 pub mod refusal;
 #[cfg(test)]
 mod tests;
-pub mod text;

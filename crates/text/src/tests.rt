@@ -1,8 +1,8 @@
 // A text of up to three letters, from empty to full and back, at both ends and beyond.
+use crate::document::Document;
 use crate::refusal::Refusal;
 use crate::refusal::RefusalDebug;
 use crate::refusal::RefusalPartialEq;
-use crate::text::Text;
 use operation::operation::Operation;
 use std::test::*;
 
@@ -19,11 +19,31 @@ fn delete(place: u32) -> Operation {
 }
 
 #[test]
-fn edits_and_refuses() -> Result<(), Fail> {
-    let mut letters = [97, 98, 0];
-    let mut sites = [1, 2, 0];
-    let mut text = Text::new(&mut letters, &mut sites, 2);
-    check(text.len() == 2 && text.capacity() == 3)?;
+fn edits_and_refuses(rt: LibcRuntime) -> Result<(), Fail> {
+    let mut text = Document::with_capacity(rt.alloc(), 9)?;
+    check(
+        text.apply(
+                Operation::Insert {
+                    site: 1,
+                    place: 0,
+                    letter: 97,
+                },
+                3,
+            )
+            .is_ok(),
+    )?;
+    check(
+        text.apply(
+                Operation::Insert {
+                    site: 2,
+                    place: 1,
+                    letter: 98,
+                },
+                3,
+            )
+            .is_ok(),
+    )?;
+    check(text.len() == 2 && text.capacity() == 9)?;
     let cases: [(Operation, Result<(), Refusal>, &[u32], &[u8]); 18] = [
         (insert(3, 99), Err(Refusal::BeyondText), &[97, 98], &[1, 2]),
         (insert(2, 0), Err(Refusal::BadLetter), &[97, 98], &[1, 2]),
@@ -75,11 +95,33 @@ fn edits_and_refuses() -> Result<(), Fail> {
         (insert(0, 100), Ok(()), &[100], &[7]),
     ];
     for (op, answer, letters, sites) in cases {
-        check_eq(text.apply(op), answer)?;
+        check_eq(text.check(op, 3), answer)?;
+        check_eq(text.apply(op, 3), answer)?;
         check(text.letters() == letters)?;
         check(text.sites() == sites)?;
     }
     Ok(())
+}
+
+// A copy needs room for all letters; memory bounds a text where the limit does not.
+#[test]
+fn copies_and_clears(rt: LibcRuntime) -> Result<(), Fail> {
+    let mut text = Document::with_capacity(rt.alloc(), 2)?;
+    check(text.apply(insert(0, 98), usize::MAX).is_ok())?;
+    check(text.apply(insert(0, 97), usize::MAX).is_ok())?;
+    check_eq(
+        text.apply(insert(0, 99), usize::MAX),
+        Err(Refusal::TextFull),
+    )?;
+    let mut copy = Document::with_capacity(rt.alloc(), 3)?;
+    check(copy.copy_from(&text).is_ok())?;
+    check(copy.letters() == &[97, 98] && copy.sites() == &[7, 7])?;
+    check(copy.apply(insert(1, 99), usize::MAX).is_ok())?;
+    check_eq(text.copy_from(&copy), Err(Refusal::TextFull))?;
+    check(text.letters() == &[97, 98])?;
+    text.clear();
+    check(text.len() == 0 && text.letters().is_empty())?;
+    check(copy.copy_from(&text).is_ok() && copy.len() == 0)
 }
 
 #[test]

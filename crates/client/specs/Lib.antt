@@ -1,0 +1,3 @@
+pub mod Replicas
+pub mod Refusals
+pub mod Clients

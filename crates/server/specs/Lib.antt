@@ -1,0 +1,4 @@
+pub mod Sessions
+pub mod Refusals
+pub mod Seats
+pub mod Servers
