@@ -11,11 +11,9 @@ use crate::client::Client;
 use crate::refusal::Refusal;
 use crate::refusal::reason_of;
 use operation::entry::Entry;
+use operation::entry::HISTORY_CAPACITY;
 use operation::operation::Operation;
 use text::document::Document;
-
-// How many entries a history has at most.
-const HISTORY_CAPACITY: u32 = 4_294_967_294;
 
 // How many entries a client sees from one report to the next.
 const REPORT_EVERY: u32 = 1024;

@@ -7,3 +7,4 @@ pub mod Through
 pub mod Renaming
 pub mod Bounds
 pub mod Passing
+pub mod PassingEntries

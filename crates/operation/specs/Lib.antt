@@ -1,5 +1,6 @@
 pub mod Letters
 pub mod Edits
 pub mod Transform
+pub mod Entries
 pub mod Laws
 pub mod Commutes

@@ -4,6 +4,9 @@ use crate::operation::Operation;
 use crate::operation::OperationDebug;
 use crate::operation::OperationPartialEq;
 
+// How many entries a history has at most.
+pub const HISTORY_CAPACITY: u32 = 4_294_967_294;
+
 // An operation with its place in the history.
 #[derive(Clone, Copy, PartialEq, Eq, Debug)]
 pub struct Entry<O = Operation> {

@@ -1,4 +1,7 @@
 // Examples of the table, and of a list.
+use crate::entry::Entry;
+use crate::entry::EntryDebug;
+use crate::entry::EntryPartialEq;
 use crate::operation::Operation;
 use crate::operation::OperationDebug;
 use crate::operation::OperationPartialEq;
@@ -53,14 +56,20 @@ fn follows_the_table() -> Result<(), Fail> {
     Ok(())
 }
 
-// Site 0 inserts at 1; site 1 had inserted at 1 and at 2 and deleted at 0. Each goes past the other.
+fn entry(place: u32, op: Operation) -> Entry {
+    Entry { place, op }
+}
+
+// Site 0 inserts at 1; site 1 had inserted at 1 and at 2 and deleted at 0. Each goes past the other, and the entries keep their places.
 #[test]
 fn goes_through_a_list() -> Result<(), Fail> {
-    let mut list = [insert(1, 1), insert(1, 2), delete(1, 0)];
+    let mut list = [
+        entry(7, insert(1, 1)),
+        entry(8, insert(1, 2)),
+        entry(9, delete(1, 0)),
+    ];
     check_eq(transform_through(insert(0, 1), &mut list), insert(0, 0))?;
-    for (got, want) in list.iter()
-        .zip([insert(1, 2), insert(1, 3), delete(1, 0)].iter()) {
-        check_eq(*got, *want)?;
-    }
-    Ok(())
+    check_eq(list[0], entry(7, insert(1, 2)))?;
+    check_eq(list[1], entry(8, insert(1, 3)))?;
+    check_eq(list[2], entry(9, delete(1, 0)))
 }

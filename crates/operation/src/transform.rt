@@ -2,6 +2,8 @@
 ghost use mathlib.Core.Path.{_≡_};
 ghost use Rattle.operation.specs.Transform.{transformed, through};
 ghost use Rattle.operation.specs.Commutes.{Commutes};
+ghost use Rattle.operation.specs.Entries.{operations, replaced};
+use crate::entry::Entry;
 use crate::operation::Operation;
 
 // What `a` becomes when `b` was done first. Of two that insert at one place the lower site's letter comes first.
@@ -52,16 +54,16 @@ pub fn transform(a: Operation, b: Operation) -> Operation
     }
 }
 
-// Passes `op` through `list` in place: past each in turn, while each goes past `op` as it is by then. The answer is what `op` has become.
-pub fn transform_through(op: Operation, list: &mut [Operation]) -> Operation
-    ensures one { λ r. ⌜ r ≡ through transformed transformed op (now (list .entry)) .one ⌝ }
-    ensures others { λ _. ⌜ now (list .exit) ≡ through transformed transformed op (now (list .entry)) .others ⌝ }
-    ensures tp1 { λ r. ⌜ Commutes op (now (list .entry)) r (now (list .exit)) ⌝ }
+// Passes `op` through the entries in place: past each in turn, while each goes past `op` as it is by then. The answer is what `op` has become.
+pub fn transform_through(op: Operation, list: &mut [Entry]) -> Operation
+    ensures one { λ r. ⌜ r ≡ through transformed transformed op (operations (now (list .entry))) .one ⌝ }
+    ensures others { λ _. ⌜ now (list .exit) ≡ replaced (now (list .entry)) (through transformed transformed op (operations (now (list .entry))) .others) ⌝ }
+    ensures tp1 { λ r. ⌜ Commutes op (operations (now (list .entry))) r (operations (now (list .exit))) ⌝ }
 {
     let mut one = op;
-    for other in list.iter_mut() {
-        let old = *other;
-        *other = transform(old, one);
+    for entry in list.iter_mut() {
+        let old = entry.op;
+        entry.op = transform(old, one);
         one = transform(one, old);
     }
     one

@@ -84,6 +84,7 @@ module _ (m : Submission Op) (was : ServerState coded) (i : ℕ) (i-is : i ≡ s
   others-told e is b j =
       b j ∙ (λ t. cond (eqb j (i-is t)) (a j t) (bounded (told (is t) (a j t))))
       ∙ cond-others (eqb j (site (m .op))) (λ z. bounded (told (entry m was) z)) (sender coded m (was .seats (site (m .op)))) (was .seats j)
+      ∙ sym (cond-others (eqb j (site (m .op))) bounded (sender coded m (was .seats (site (m .op)))) (told (entry m was) (was .seats j)))
 
 -- nothing is refused: the text has no reason
 pub no-reason : (q : Option TextRefusal) (bad full : Bool) → None ≡ lowest q bad full → None ≡ q

@@ -6,9 +6,10 @@ use lib.Dec.{leb}
 use lib.ListN.{length, getD}
 use Rattle.std.specs.Of.Vec.{vec-items}
 use Rattle.operation.specs.declared.operation.Operation.{Operation}
+use Rattle.operation.specs.Entries.{operations, replaced}
 use Rattle.operation.specs.Transform.{transformed, through}
 use Rattle.server.specs.declared.session.Session.{Session}
-use Rattle.server.specs.Sessions.{Seat, free, operations, replaced}
+use Rattle.server.specs.Sessions.{Seat, free}
 
 abbrev pub Op : Type 0
 Op = Operation ℕ

@@ -1,7 +1,7 @@
 -- The server's calls: what they answer and what they leave. Limits of the code are here.
 use mathlib.Core.Path.{_≡_}
 use mathlib.Core.Bool.{Bool, cond, _||_}
-use mathlib.Core.List.{List, [], _∷_, _++_}
+use mathlib.Core.List.{List, [], _∷_}
 use Prim.Native.Nat.{ℕ, zero, suc, min}
 use lib.Dec.{eqb, ltb, leb}
 use lib.ListN.{length, getD}
@@ -22,7 +22,7 @@ use Rattle.server.specs.declared.refusal.Refusal.{Refusal}
 use Rattle.server.specs.declared.refusal.Refusal.the-variants.{BadLetter, NotConnected, BeyondText, BadRevision, Full, SitesInUse, OutOfMemory}
 use Rattle.server.specs.declared.joined.Joined.{Joined}
 use Rattle.server.specs.declared.server.Server.{Server}
-use Rattle.server.specs.Sessions.{Seat, free, joinedAt, heard, told, ServerState, arrival, sender}
+use Rattle.server.specs.Sessions.{Seat, free, joinedAt, heard, ServerState, arrival, taken}
 pub use Rattle.server.specs.Seats.{Op, seatOf, seatsIn, bounded}
 
 -- THE STATE
@@ -62,13 +62,12 @@ takeRefusal n m s v = lowest (refusal (min n 65536) (arrival coded m s .one) (v 
 abbrev pub withSeat : ℕ → Seat Op → ServerState coded → ServerState coded
 withSeat i s v = record { text = v .text; history = v .history; seats = λ j. cond (eqb j i) s (v .seats j) }
 
--- the operation is taken, and whoever would then have more than 4,096 entries before it has no connection any more
+-- whoever has more than 4,096 entries before it then, but for the sender at site i, has no connection any more
+abbrev pub overflowed : ℕ → ServerState coded → ServerState coded
+overflowed i v = record { text = v .text; history = v .history; seats = λ j. cond (eqb j i) (v .seats j) (bounded (v .seats j)) }
+
 abbrev pub takenBounded : ℕ → Submission Op → ServerState coded → ServerState coded
-takenBounded i m v = record {
-  text = coded .apply (arrival coded m (v .seats i) .one) (v .text);
-  history = v .history ++ arrival coded m (v .seats i) .one ∷ [];
-  seats = λ j. cond (eqb j i) (sender coded m (v .seats i)) (bounded (told (record { place = length (v .history); op = arrival coded m (v .seats i) .one }) (v .seats j)));
-}
+takenBounded i m v = overflowed i (taken coded i m v)
 
 -- WHAT A CALL LEAVES
 pub record Same (v w : ServerState coded) : Type 0 where

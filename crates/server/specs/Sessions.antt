@@ -1,11 +1,12 @@
 -- What the server has of each client, and of its own text and history, for any kind of operations.
 use mathlib.Core.Bool.{Bool, true, false, cond}
-use mathlib.Core.List.{List, [], _∷_, _++_, map}
+use mathlib.Core.List.{List, [], _∷_, _++_}
 use Prim.Native.Nat.{ℕ}
 use lib.Dec.{eqb, leb}
 use lib.ListN.{length}
 use Rattle.operation.specs.declared.entry.Entry.{Entry}
 use Rattle.operation.specs.declared.entry.Submission.{Submission}
+use Rattle.operation.specs.Entries.{operations, replaced}
 use Rattle.operation.specs.Transform.{Passed, through}
 use Rattle.operation.specs.Laws.{Kind}
 
@@ -28,15 +29,6 @@ joinedAt n = record { connected = true; said = n; concurrent = [] }
 unfoldable pub unseen : {O : Type 0} → ℕ → List (Entry O) → List (Entry O)
 unseen r [] = []
 unseen r (e ∷ es) = cond (leb r (e .place)) (e ∷ unseen r es) (unseen r es)
-
-abbrev pub operations : {O : Type 0} → List (Entry O) → List O
-operations {O} es = map (λ (e : Entry O). e .op) es
-
--- the same places with other operations
-unfoldable pub replaced : {O : Type 0} → List (Entry O) → List O → List (Entry O)
-replaced [] os = []
-replaced (e ∷ es) [] = []
-replaced (e ∷ es) (o ∷ os) = record { place = e .place; op = o } ∷ replaced es os
 
 -- what the client has said: the entries below r are seen
 abbrev pub heard : {O : Type 0} → ℕ → Seat O → Seat O

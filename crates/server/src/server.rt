@@ -8,9 +8,6 @@ use operation::operation::Operation;
 // How many sites there are: a client has a site of its own.
 pub const SITES: usize = 16;
 
-// How many entries the history has at most.
-pub const HISTORY_CAPACITY: u32 = 4_294_967_294;
-
 #[derive(Drop)]
 pub struct Server {
     pub(crate) history: Vec<Operation>,

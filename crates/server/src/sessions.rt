@@ -2,17 +2,18 @@
 ghost use mathlib.Core.Path.{_≡_};
 ghost use mathlib.Core.List.{[]};
 ghost use Rattle.std.specs.Vec.{made};
+ghost use Rattle.operation.specs.Entries.{operations};
 ghost use Rattle.operation.specs.Transform.{transformed, through};
 ghost use Rattle.text.specs.Coded.{coded};
-ghost use Rattle.server.specs.Sessions.{free, joinedAt, heard, told, operations, arrival, sender};
+ghost use Rattle.server.specs.Sessions.{free, joinedAt, heard, told, arrival, sender};
 ghost use Rattle.server.specs.Seats.{seatOf, bounded, passed};
 use crate::entries::keep_unseen;
-use crate::entries::pass_through;
 use crate::session::CONCURRENT_CAPACITY;
 use crate::session::Session;
 use operation::entry::Entry;
 use operation::entry::Submission;
 use operation::operation::Operation;
+use operation::transform::transform_through;
 use std::alloc::AllocError;
 use std::alloc::Global;
 
@@ -66,7 +67,7 @@ impl Session {
         ensures one { λ r. ⌜ r ≡ through transformed transformed op (operations (seatOf (now (self .entry)) .concurrent)) .one ⌝ }
         ensures seat { λ _. ⌜ seatOf (now (self .exit)) ≡ passed op (seatOf (now (self .entry))) ⌝ }
     {
-        pass_through(op, self.list.as_mut_slice())
+        transform_through(op, self.list.as_mut_slice())
     }
 
     // The client sends an operation that it made at a revision. The answer is what the operation has become.

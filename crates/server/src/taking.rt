@@ -16,9 +16,9 @@ ghost use Rattle.server.specs.Servers.{seats, historyOf, stateOf, historyFull,
 ghost use Rattle.server.specs.Servers.{lowest as lowestOf};
 use crate::refusal::Refusal;
 use crate::seating::announce;
-use crate::server::HISTORY_CAPACITY;
 use crate::server::Server;
 use operation::entry::Entry;
+use operation::entry::HISTORY_CAPACITY;
 use operation::entry::Submission;
 use operation::operation::Operation;
 use text::document::Document;
