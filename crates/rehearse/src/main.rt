@@ -35,7 +35,10 @@ fn asked_of_room(command: Command) -> Option<RoomCommand>
         Command::Settle => return Some(RoomCommand::Settle),
         Command::Show => return None,
     };
-    Some(RoomCommand::Ask { writer, action })
+    Some(RoomCommand::Ask {
+        peer: writer,
+        action,
+    })
 }
 
 // The server's text, and that of each writer that has joined.

@@ -1,4 +1,4 @@
--- One writer of the room, among the others.
+-- One peer of the room, among the others.
 use mathlib.Core.Path.{_≡_, refl, sym, ap, subst, _∙_}
 use mathlib.Core.List.{List, map}
 use mathlib.Core.Bool.{true, false, _||_}
@@ -11,39 +11,39 @@ use Rattle.std.proofs.shelf.Tests.{ltb-true, ltb-false}
 use Rattle.text.specs.Coded.{coded}
 use Rattle.server.specs.Sessions.{ServerState}
 use Rattle.room.specs.declared.event.Event.{Event}
-use Rattle.room.specs.declared.writer.Writer.{Writer}
-use Rattle.room.specs.Scenes.{Scene, RoomState, writerOf, stage, waiting, scene, with, withEach, ended, anyEnded}
+use Rattle.room.specs.declared.peer.Peer.{Peer}
+use Rattle.room.specs.Scenes.{Scene, RoomState, peerOf, stage, waiting, scene, with, withEach, ended, anyEnded}
 
-pub writer-at : (ws : List Writer) (i : ℕ) (x : Writer) → i < length ws → x ≡ getD ws i x → writerOf x ≡ getD (map writerOf ws) i (waiting i)
-writer-at ws i x h found = ap writerOf found ∙ sym (getD-map writerOf ws i x (waiting i) h)
+pub peer-at : (ws : List Peer) (i : ℕ) (x : Peer) → i < length ws → x ≡ getD ws i x → peerOf x ≡ getD (map peerOf ws) i (waiting i)
+peer-at ws i x h found = ap peerOf found ∙ sym (getD-map peerOf ws i x (waiting i) h)
 
 -- looked up in zs, which is ws
-module _ (ws zs : List Writer) (i : ℕ) (same : zs ≡ ws) where
-  pub looked-up : (x : Writer) → (true ≡ ltb i (length zs)) × (x ≡ getD zs i x) → writerOf x ≡ getD (map writerOf ws) i (waiting i)
-  looked-up x f = writer-at ws i x (subst (λ us. i < length us) same (ltb-true i (length zs) (sym (f .0)))) (f .1 ∙ ap (λ us. getD us i x) same)
+module _ (ws zs : List Peer) (i : ℕ) (same : zs ≡ ws) where
+  pub looked-up : (x : Peer) → (true ≡ ltb i (length zs)) × (x ≡ getD zs i x) → peerOf x ≡ getD (map peerOf ws) i (waiting i)
+  looked-up x f = peer-at ws i x (subst (λ us. i < length us) same (ltb-true i (length zs) (sym (f .0)))) (f .1 ∙ ap (λ us. getD us i x) same)
 
-  pub not-there : false ≡ ltb i (length zs) → waiting i ≡ getD (map writerOf ws) i (waiting i)
+  pub not-there : false ≡ ltb i (length zs) → waiting i ≡ getD (map peerOf ws) i (waiting i)
   not-there f =
       let h : length zs ≤ i = ltb-false i (length zs) (sym f) in
-      sym (getD-past (map writerOf ws) i (waiting i) (subst (λ n. n ≤ i) (ap length same ∙ sym (length-map ws writerOf)) h))
+      sym (getD-past (map peerOf ws) i (waiting i) (subst (λ n. n ≤ i) (ap length same ∙ sym (length-map ws peerOf)) h))
 
-module _ (v : ServerState coded) (ws : List Writer) (es : List Event) (i : ℕ) (x : Writer) (h : i < length ws) (found : x ≡ getD ws i x) where
+module _ (v : ServerState coded) (ws : List Peer) (es : List Event) (i : ℕ) (x : Peer) (h : i < length ws) (found : x ≡ getD ws i x) where
   abbrev room : RoomState
-  room = record { server = v; writers = map writerOf ws; events = es }
+  room = record { server = v; peers = map peerOf ws; events = es }
 
-  -- the writer that is found there is the one on stage
+  -- the peer that is found there is the one on stage
   pub on-stage : stage v x es ≡ scene i room
-  on-stage = let e = writer-at ws i x h found in λ j. record { server = v; writer = e j; events = es }
+  on-stage = let e = peer-at ws i x h found in λ j. record { server = v; peer = e j; events = es }
 
   -- what is done with it is done in the room
-  pub done-with : (f : Scene → Scene) (u : ServerState coded) (y : Writer) (fs : List Event) → stage u y fs ≡ f (stage v x es) →
-      record { server = u; writers = map writerOf (set ws i y); events = fs } ≡ with i f room
+  pub done-with : (f : Scene → Scene) (u : ServerState coded) (y : Peer) (fs : List Event) → stage u y fs ≡ f (stage v x es) →
+      record { server = u; peers = map peerOf (set ws i y); events = fs } ≡ with i f room
   done-with f u y fs e =
       let p : stage u y fs ≡ f (scene i room) = e ∙ ap f on-stage in
-      ap (λ zs. record { server = u; writers = zs; events = fs }) (map-set writerOf ws i y)
-      ∙ ap (λ (s : Scene). record { server = s .server; writers = set (map writerOf ws) i (s .writer); events = s .events }) p
+      ap (λ zs. record { server = u; peers = zs; events = fs }) (map-set peerOf ws i y)
+      ∙ ap (λ (s : Scene). record { server = s .server; peers = set (map peerOf ws) i (s .peer); events = s .events }) p
 
--- one writer more
+-- one peer more
 module _ (i : ℕ) (r : RoomState) where
   next : i + 1 ≡ suc i
   next = omega arith

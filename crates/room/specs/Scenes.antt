@@ -1,4 +1,4 @@
--- What a script's commands do: to the server and one writer, and to the room with all writers. Each is a function on states.
+-- What a script's commands do: to the server and one peer, and to the room with all peers. Each is a function on states.
 use mathlib.Core.Bool.{Bool, true, false, cond, _&&_, _||_, not}
 use mathlib.Core.List.{List, [], _∷_, _++_, map}
 use Prim.Native.Nat.{ℕ, zero, suc, _+_, _-_, _^_, min}
@@ -37,36 +37,36 @@ use Rattle.room.specs.declared.edit.Edit.the-variants as edit
 use Rattle.room.specs.declared.event.Event.{Event}
 use Rattle.room.specs.declared.event.Event.the-variants as event
 use Rattle.room.specs.declared.host.Host.{Host}
-use Rattle.room.specs.declared.writer.Writer.{Writer}
+use Rattle.room.specs.declared.peer.Peer.{Peer}
 use Rattle.room.specs.declared.room.Room.{Room}
 
 abbrev pub Op : Type 0
 Op = Operation ℕ
 
 -- STATES
-pub record WriterState : Type 0 where
+pub record PeerState : Type 0 where
   pub joined : Bool
   pub site : ℕ
   pub replica : Replica coded
   pub queue : List (Message Op)
   pub performed : ℕ
 
--- the server, one writer, and what has been reported
+-- the server, one peer, and what has been reported
 pub record Scene : Type 0 where
   pub server : ServerState coded
-  pub writer : WriterState
+  pub peer : PeerState
   pub events : List Event
 
 pub record RoomState : Type 0 where
   pub server : ServerState coded
-  pub writers : List WriterState
+  pub peers : List PeerState
   pub events : List Event
 
 abbrev pub hosted : Host → ServerState coded
 hosted h = stateOf (h .server) (textOf (h .text))
 
-abbrev pub writerOf : Writer → WriterState
-writerOf w = record {
+abbrev pub peerOf : Peer → PeerState
+peerOf w = record {
   joined = w .joined;
   site = w .client .site;
   replica = replica (w .client) (textOf (w .text));
@@ -75,20 +75,20 @@ writerOf w = record {
 }
 
 abbrev pub roomState : Room → RoomState
-roomState r = record { server = hosted (r .host); writers = map writerOf (vec-items (r .writers)); events = vec-items (r .events) }
+roomState r = record { server = hosted (r .host); peers = map peerOf (vec-items (r .peers)); events = vec-items (r .events) }
 
--- the server in a state, and a writer
-abbrev pub stage : ServerState coded → Writer → List Event → Scene
-stage v w es = record { server = v; writer = writerOf w; events = es }
+-- the server in a state, and a peer
+abbrev pub stage : ServerState coded → Peer → List Event → Scene
+stage v w es = record { server = v; peer = peerOf w; events = es }
 
 -- something more is reported
 abbrev pub reported : List Event → Scene → Scene
-reported es s = record { server = s .server; writer = s .writer; events = s .events ++ es }
+reported es s = record { server = s .server; peer = s .peer; events = s .events ++ es }
 
--- JOINING, for the first time or anew: a connection that the writer had ends, the text is the server's, nothing is pending and nothing under way.
+-- JOINING, for the first time or anew: a connection that the peer had ends, the text is the server's, nothing is pending and nothing under way.
 -- What it performed and the history does not have is lost; this is reported when it joins anew.
 abbrev pub lossOf : Scene → List Event
-lossOf s = cond (s .writer .joined) (event.Lost (s .writer .site) (s .writer .performed - countBy (s .writer .site) (s .server .history)) ∷ []) []
+lossOf s = cond (s .peer .joined) (event.Lost (s .peer .site) (s .peer .performed - countBy (s .peer .site) (s .server .history)) ∷ []) []
 
 abbrev pub reconnected : ℕ → ServerState coded → ServerState coded
 reconnected i v = withSeat i (joinedAt (length (v .history))) (withSeat i free v)
@@ -97,22 +97,22 @@ reconnected i v = withSeat i (joinedAt (length (v .history))) (withSeat i free v
 abbrev pub welcome : ℕ → ServerState coded → Joined
 welcome i v = record { site = i; revision = length (v .history); count = countBy i (v .history) }
 
--- a writer at site i that has just joined
-abbrev pub arrived : ℕ → List Letter → ℕ → ℕ → WriterState
+-- a peer at site i that has just joined
+abbrev pub arrived : ℕ → List Letter → ℕ → ℕ → PeerState
 arrived i t n count = record { joined = true; site = i; replica = fresh coded t n; queue = []; performed = count }
 
 abbrev pub joining : Scene → Scene
 joining s = record {
-  server = reconnected (s .writer .site) (s .server);
-  writer = arrived (s .writer .site) (s .server .text) (length (s .server .history)) (countBy (s .writer .site) (s .server .history));
+  server = reconnected (s .peer .site) (s .server);
+  peer = arrived (s .peer .site) (s .server .text) (length (s .server .history)) (countBy (s .peer .site) (s .server .history));
   events = s .events ++ lossOf s;
 }
 
--- has the writer a connection?
+-- has the peer a connection?
 abbrev pub connected : Scene → Bool
-connected s = s .writer .joined && s .server .seats (s .writer .site) .connected
+connected s = s .peer .joined && s .server .seats (s .peer .site) .connected
 
--- a writer that a command names joins first if it has no connection
+-- a peer that a command names joins first if it has no connection
 abbrev pub named : Scene → Scene
 named s = cond (connected s) s (joining s)
 
@@ -120,27 +120,27 @@ named s = cond (connected s) s (joining s)
 abbrev pub sentOff : Option ClientRefusal → Op → Scene → Scene
 sentOff None o s = record {
   server = s .server;
-  writer = record {
-    joined = s .writer .joined;
-    site = s .writer .site;
-    replica = edited 65792 o (s .writer .replica);
-    queue = s .writer .queue ++ message.Operation (submission coded o (s .writer .replica)) ∷ [];
-    performed = min (s .writer .performed + 1) (2 ^ 64 - 1);
+  peer = record {
+    joined = s .peer .joined;
+    site = s .peer .site;
+    replica = edited 65792 o (s .peer .replica);
+    queue = s .peer .queue ++ message.Operation (submission coded o (s .peer .replica)) ∷ [];
+    performed = min (s .peer .performed + 1) (2 ^ 64 - 1);
   };
   events = s .events;
 }
 sentOff (Some e) o s = reported (event.Refused (clientNumber e) ∷ []) s
 
--- what the writer at site i is asked to perform
+-- what the peer at site i is asked to perform
 abbrev pub operationOf : ℕ → Edit → Op
 operationOf i (edit.Insert p x) = Insert i p x
 operationOf i (edit.Delete p) = Delete i p
 
-abbrev pub withReplica : Replica coded → WriterState → WriterState
+abbrev pub withReplica : Replica coded → PeerState → PeerState
 withReplica r w = record { joined = w .joined; site = w .site; replica = r; queue = w .queue; performed = w .performed }
 
 abbrev pub performing : Op → Scene → Scene
-performing o s = sentOff (editRefusal 65792 o (s .writer .replica)) o s
+performing o s = sentOff (editRefusal 65792 o (s .peer .replica)) o s
 
 -- SEEING the next entry, with a revision so far to send where it is due
 abbrev pub report : Option ℕ → List (Message Op)
@@ -150,24 +150,24 @@ report (Some r) = message.Revision r ∷ []
 abbrev pub seen : Option ClientRefusal → Entry Op → Scene → Scene
 seen None e s = record {
   server = s .server;
-  writer = record {
-    joined = s .writer .joined;
-    site = s .writer .site;
-    replica = afterSeeing 65792 (s .writer .site) e (s .writer .replica);
-    queue = s .writer .queue ++ report (due (afterSeeing 65792 (s .writer .site) e (s .writer .replica) .revision));
-    performed = s .writer .performed;
+  peer = record {
+    joined = s .peer .joined;
+    site = s .peer .site;
+    replica = afterSeeing 65792 (s .peer .site) e (s .peer .replica);
+    queue = s .peer .queue ++ report (due (afterSeeing 65792 (s .peer .site) e (s .peer .replica) .revision));
+    performed = s .peer .performed;
   };
   events = s .events;
 }
 seen (Some r) e s = reported (event.Refused (clientNumber r) ∷ []) s
 
--- what comes next for the writer
+-- what comes next for the peer
 abbrev pub nextEntry : Scene → Option (Entry Op)
-nextEntry s = entryAt (s .writer .replica .revision) (s .server .history)
+nextEntry s = entryAt (s .peer .replica .revision) (s .server .history)
 
 abbrev pub seeingEntry : Option (Entry Op) → Scene → Scene
 seeingEntry None s = reported (event.Nothing ∷ []) s
-seeingEntry (Some e) s = seen (seeRefusal 65792 (s .writer .site) e (s .writer .replica)) e s
+seeingEntry (Some e) s = seen (seeRefusal 65792 (s .peer .site) e (s .peer .replica)) e s
 
 abbrev pub seeing : Scene → Scene
 seeing s = seeingEntry (nextEntry s) s
@@ -179,7 +179,7 @@ isNone (Some r) = false
 
 abbrev pub takesEntry : Option (Entry Op) → Scene → Bool
 takesEntry None s = false
-takesEntry (Some e) s = isNone (seeRefusal 65792 (s .writer .site) e (s .writer .replica))
+takesEntry (Some e) s = isNone (seeRefusal 65792 (s .peer .site) e (s .peer .replica))
 
 -- all entries up to the end of the history, as long as none is refused
 
@@ -188,10 +188,10 @@ seeingUpTo zero s = s
 seeingUpTo (suc n) s = cond (takesEntry (nextEntry s) s) (seeingUpTo n (seeing s)) (seeing s)
 
 abbrev pub seeingAll : Scene → Scene
-seeingAll s = seeingUpTo (length (s .server .history) - s .writer .replica .revision) s
+seeingAll s = seeingUpTo (length (s .server .history) - s .peer .replica .revision) s
 
 -- TAKING the oldest message under way
-abbrev pub without : List (Message Op) → WriterState → WriterState
+abbrev pub without : List (Message Op) → PeerState → PeerState
 without q w = record { joined = w .joined; site = w .site; replica = w .replica; queue = q; performed = w .performed }
 
 abbrev pub refusalOf : {A : Type 0} → Result A ServerRefusal → Option ServerRefusal
@@ -214,9 +214,9 @@ refusedBy (Some e) = event.Refused (serverNumber e) ∷ []
 -- `rest` is under way then
 abbrev pub arriving : Message Op → List (Message Op) → Scene → Scene
 arriving m rest s = record {
-  server = serverAfter (s .writer .site) m (s .server);
-  writer = without rest (s .writer);
-  events = s .events ++ refusedBy (serverRefusal (s .writer .site) m (s .server));
+  server = serverAfter (s .peer .site) m (s .server);
+  peer = without rest (s .peer);
+  events = s .events ++ refusedBy (serverRefusal (s .peer .site) m (s .server));
 }
 
 abbrev pub isAccepted : Option ServerRefusal → Bool
@@ -224,7 +224,7 @@ isAccepted None = true
 isAccepted (Some e) = false
 
 abbrev pub accepted : Message Op → Scene → Bool
-accepted m s = isAccepted (serverRefusal (s .writer .site) m (s .server))
+accepted m s = isAccepted (serverRefusal (s .peer .site) m (s .server))
 
 abbrev pub isOperation : Message Op → Bool
 isOperation (message.Operation m) = true
@@ -237,56 +237,56 @@ takingUntil stop f (m ∷ q) s = cond (accepted m s && not (stop m)) (takingUnti
 
 -- the oldest operation, with the revisions before it
 abbrev pub taking : Scene → Scene
-taking s = takingUntil isOperation (reported (event.Nothing ∷ [])) (s .writer .queue) s
+taking s = takingUntil isOperation (reported (event.Nothing ∷ [])) (s .peer .queue) s
 
 -- all that is under way
 abbrev pub takingAll : Scene → Scene
-takingAll s = takingUntil (λ m. false) (λ t. t) (s .writer .queue) s
+takingAll s = takingUntil (λ m. false) (λ t. t) (s .peer .queue) s
 
 -- WHAT IS DONE WITH ONE WRITER. A command that names it lets it join first; the last three are for settling.
 abbrev pub editing : Edit → Scene → Scene
-editing e s = performing (operationOf (s .writer .site) e) s
+editing e s = performing (operationOf (s .peer .site) e) s
 
 abbrev pub acting : Action → Scene → Scene
 acting (action.Edit e) s = editing e (named s)
 acting action.Take s = taking (named s)
 acting action.See s = seeing (named s)
 acting action.Join s = joining s
-acting action.Rejoin s = cond (s .writer .joined) (named s) s
+acting action.Rejoin s = cond (s .peer .joined) (named s) s
 acting action.TakeAll s = cond (connected s) (takingAll s) s
 acting action.SeeAll s = cond (connected s) (seeingAll s) s
 
 -- THE ROOM
--- a writer that has not joined
-abbrev pub waiting : ℕ → WriterState
+-- a peer that has not joined
+abbrev pub waiting : ℕ → PeerState
 waiting i = record { joined = false; site = i; replica = fresh coded [] 0; queue = []; performed = 0 }
 
 -- nobody has joined, and the text is empty
 abbrev pub opening : RoomState
-opening = record { server = record { text = []; history = []; seats = λ i. free }; writers = waiting 0 ∷ waiting 1 ∷ waiting 2 ∷ waiting 3 ∷ []; events = [] }
+opening = record { server = record { text = []; history = []; seats = λ i. free }; peers = waiting 0 ∷ waiting 1 ∷ waiting 2 ∷ waiting 3 ∷ []; events = [] }
 
--- the server and writer w
+-- the server and peer w
 abbrev pub scene : ℕ → RoomState → Scene
-scene w r = record { server = r .server; writer = getD (r .writers) w (waiting w); events = r .events }
+scene w r = record { server = r .server; peer = getD (r .peers) w (waiting w); events = r .events }
 
--- something is done with writer w
+-- something is done with peer w
 abbrev pub with : ℕ → (Scene → Scene) → RoomState → RoomState
-with w f r = record { server = f (scene w r) .server; writers = set (r .writers) w (f (scene w r) .writer); events = f (scene w r) .events }
+with w f r = record { server = f (scene w r) .server; peers = set (r .peers) w (f (scene w r) .peer); events = f (scene w r) .events }
 
 -- the same with each of the first n, one after another
 unfoldable pub withEach : ℕ → (Scene → Scene) → RoomState → RoomState
 withEach zero f r = r
 withEach (suc n) f r = with n f (withEach n f r)
 
--- SETTLING: whoever has no connection joins anew; all that is under way is taken, writer by writer; and all see all.
+-- SETTLING: whoever has no connection joins anew; all that is under way is taken, peer by peer; and all see all.
 -- Where a connection has ended meanwhile, once more.
 abbrev pub round : RoomState → RoomState
 round r = withEach 4 (acting action.SeeAll) (withEach 4 (acting action.TakeAll) (withEach 4 (acting action.Rejoin) r))
 
 abbrev pub ended : Scene → Bool
-ended s = s .writer .joined && not (connected s)
+ended s = s .peer .joined && not (connected s)
 
--- has one of the first n writers joined and no connection any more?
+-- has one of the first n peers joined and no connection any more?
 unfoldable pub anyEnded : ℕ → RoomState → Bool
 anyEnded zero r = false
 anyEnded (suc n) r = anyEnded n r || ended (scene n r)
@@ -296,13 +296,13 @@ settling r = cond (anyEnded 4 (round r)) (round (round r)) (round r)
 
 -- A CRASH of the server, which starts again from its history
 abbrev pub crashing : RoomState → RoomState
-crashing r = record { server = restarted 65536 (r .server); writers = r .writers; events = r .events }
+crashing r = record { server = restarted 65536 (r .server); peers = r .peers; events = r .events }
 
 -- all that there was to report has been reported
 abbrev pub told : RoomState → RoomState
-told r = record { server = r .server; writers = r .writers; events = [] }
+told r = record { server = r .server; peers = r .peers; events = [] }
 
--- A COMMAND. One for a writer that there is not does nothing.
+-- A COMMAND. One for a peer that there is not does nothing.
 abbrev pub playing : Command → RoomState → RoomState
 playing (command.Ask w a) r = cond (ltb w 4) (with w (acting a) r) r
 playing command.Crash r = crashing r

@@ -1,4 +1,4 @@
-// One action, with the server and one writer.
+// One action, with the server and one peer.
 ghost use mathlib.Core.Path.{_≡_};
 ghost use Rattle.std.specs.Of.Vec.{vec-items};
 ghost use Rattle.std.specs.Vec.{made};
@@ -10,53 +10,53 @@ use crate::host::Host;
 use crate::joining::is_connected;
 use crate::joining::join;
 use crate::joining::name;
+use crate::peer::Peer;
 use crate::seeing::see;
 use crate::seeing::see_all;
 use crate::taking::take;
 use crate::taking::take_all;
-use crate::writer::Writer;
 use std::alloc::AllocError;
 
 pub(crate) fn act(
     host: &mut Host,
-    writer: &mut Writer,
+    peer: &mut Peer,
     action: Action,
     events: &mut Vec<Event>,
 ) -> Result<(), AllocError>
-    ensures { λ r. ⌜ made r (λ _. stage (hosted (now (host .exit))) (now (writer .exit)) (vec-items (now (events .exit))) ≡ acting action (stage (hosted (now (host .entry))) (now (writer .entry)) (vec-items (now (events .entry))))) ⌝ }
+    ensures { λ r. ⌜ made r (λ _. stage (hosted (now (host .exit))) (now (peer .exit)) (vec-items (now (events .exit))) ≡ acting action (stage (hosted (now (host .entry))) (now (peer .entry)) (vec-items (now (events .entry))))) ⌝ }
 {
     match action {
         Action::Edit(edit) => {
-            name(host, writer, events)?;
-            perform(writer, edit, events)
+            name(host, peer, events)?;
+            perform(peer, edit, events)
         }
         Action::Take => {
-            name(host, writer, events)?;
-            take(host, writer, events)
+            name(host, peer, events)?;
+            take(host, peer, events)
         }
         Action::See => {
-            name(host, writer, events)?;
-            see(host, writer, events)?;
+            name(host, peer, events)?;
+            see(host, peer, events)?;
             Ok(())
         }
-        Action::Join => join(host, writer, events),
+        Action::Join => join(host, peer, events),
         Action::Rejoin => {
-            if writer.joined {
-                name(host, writer, events)
+            if peer.joined {
+                name(host, peer, events)
             } else {
                 Ok(())
             }
         }
         Action::TakeAll => {
-            if is_connected(host, writer) {
-                take_all(host, writer, events)
+            if is_connected(host, peer) {
+                take_all(host, peer, events)
             } else {
                 Ok(())
             }
         }
         Action::SeeAll => {
-            if is_connected(host, writer) {
-                see_all(host, writer, events)
+            if is_connected(host, peer) {
+                see_all(host, peer, events)
             } else {
                 Ok(())
             }

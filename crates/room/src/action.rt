@@ -1,15 +1,15 @@
-// What is done with one writer.
+// What is done with one peer.
 use crate::edit::Edit;
 
-// The first four are commands of a script, and a writer without a connection joins first. The others are for settling.
+// The first four are commands of a script, and a peer without a connection joins first. The others are for settling.
 #[derive(Clone, Copy)]
 pub enum Action {
     Edit(Edit),
-    // The server takes the writer's oldest operation.
+    // The server takes the peer's oldest operation.
     Take,
-    // The writer sees the next entry.
+    // The peer sees the next entry.
     See,
-    // The writer joins, for the first time or anew.
+    // The peer joins, for the first time or anew.
     Join,
     Rejoin,
     TakeAll,

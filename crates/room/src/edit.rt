@@ -1,4 +1,4 @@
-// What a writer can do to its text.
+// What a peer can do to its text.
 
 #[derive(Clone, Copy, PartialEq, Eq, Debug)]
 pub enum Edit {

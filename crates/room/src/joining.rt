@@ -1,4 +1,4 @@
-// A writer joins, for the first time or anew.
+// A peer joins, for the first time or anew.
 ghost use mathlib.Core.Path.{_≡_};
 ghost use mathlib.Core.List.{[]};
 ghost use Rattle.std.specs.Of.Vec.{vec-items};
@@ -6,34 +6,34 @@ ghost use Rattle.std.specs.Vec.{made};
 ghost use Rattle.std.specs.declared.result.Result.the-variants.{Ok};
 ghost use Prim.Native.Nat.{_<_};
 ghost use Rattle.text.specs.Documents.{textOf, roomOf};
-ghost use Rattle.room.specs.Scenes.{hosted, writerOf, stage, connected, welcome, reconnected, arrived, joining, named};
+ghost use Rattle.room.specs.Scenes.{hosted, peerOf, stage, connected, welcome, reconnected, arrived, joining, named};
 use crate::event::Event;
 use crate::host::Host;
-use crate::writer::Writer;
+use crate::peer::Peer;
 use client::client::Client;
 use server::joined::Joined;
 use server::refusal::Refusal;
 use std::alloc::AllocError;
 use text::document::Document;
 
-// Has the writer a connection?
-pub(crate) fn is_connected(host: &Host, writer: &Writer) -> bool
-    ensures { λ r. ⌜ r ≡ connected (stage (hosted (now (host .entry))) (now (writer .entry)) []) ⌝ }
+// Has the peer a connection?
+pub(crate) fn is_connected(host: &Host, peer: &Peer) -> bool
+    ensures { λ r. ⌜ r ≡ connected (stage (hosted (now (host .entry))) (now (peer .entry)) []) ⌝ }
 {
-    writer.joined && host.server.is_connected(writer.client.site())
+    peer.joined && host.server.is_connected(peer.client.site())
 }
 
-// The writer begins with the server's text and nothing pending.
-fn begin(writer: &mut Writer, joined: Joined, text: &Document)
+// The peer begins with the server's text and nothing pending.
+fn begin(peer: &mut Peer, joined: Joined, text: &Document)
     requires site { ⌜ joined .site < 16 ⌝ }
     requires room { ⌜ roomOf (now text) ≡ 65536 ⌝ }
-    ensures { λ _. ⌜ writerOf (now (writer .exit)) ≡ arrived (joined .site) (textOf (now (text .entry))) (joined .revision) (joined .count) ⌝ }
+    ensures { λ _. ⌜ peerOf (now (peer .exit)) ≡ arrived (joined .site) (textOf (now (text .entry))) (joined .revision) (joined .count) ⌝ }
 {
-    let _ = writer.text.copy_from(text);
-    writer.client = Client::new(joined.site, joined.revision);
-    writer.queue.clear();
-    writer.performed = u64::from(joined.count);
-    writer.joined = true;
+    let _ = peer.text.copy_from(text);
+    peer.client = Client::new(joined.site, joined.revision);
+    peer.queue.clear();
+    peer.performed = u64::from(joined.count);
+    peer.joined = true;
 }
 
 // The site's connection ends, and it gets another.
@@ -46,22 +46,22 @@ fn connect(host: &mut Host, site: u8) -> Result<Joined, Refusal>
     host.server.join(site)
 }
 
-// A connection that the writer has ends, and it gets another. What it performed and the history does not have is lost.
+// A connection that the peer has ends, and it gets another. What it performed and the history does not have is lost.
 pub(crate) fn join(
     host: &mut Host,
-    writer: &mut Writer,
+    peer: &mut Peer,
     events: &mut Vec<Event>,
 ) -> Result<(), AllocError>
-    ensures { λ r. ⌜ made r (λ _. stage (hosted (now (host .exit))) (now (writer .exit)) (vec-items (now (events .exit))) ≡ joining (stage (hosted (now (host .entry))) (now (writer .entry)) (vec-items (now (events .entry))))) ⌝ }
+    ensures { λ r. ⌜ made r (λ _. stage (hosted (now (host .exit))) (now (peer .exit)) (vec-items (now (events .exit))) ≡ joining (stage (hosted (now (host .entry))) (now (peer .entry)) (vec-items (now (events .entry))))) ⌝ }
 {
-    let site = writer.client.site();
+    let site = peer.client.site();
     match connect(host, site) {
         Ok(joined) => {
-            if writer.joined {
-                let count = writer.performed.saturating_sub(u64::from(joined.count));
+            if peer.joined {
+                let count = peer.performed.saturating_sub(u64::from(joined.count));
                 events.push(Event::Lost { site, count })?;
             }
-            begin(writer, joined, &host.text);
+            begin(peer, joined, &host.text);
         }
         Err(refusal) => {
             let number = refusal.number();
@@ -71,16 +71,16 @@ pub(crate) fn join(
     Ok(())
 }
 
-// A writer that is named joins first, if it has no connection.
+// A peer that is named joins first, if it has no connection.
 pub(crate) fn name(
     host: &mut Host,
-    writer: &mut Writer,
+    peer: &mut Peer,
     events: &mut Vec<Event>,
 ) -> Result<(), AllocError>
-    ensures { λ r. ⌜ made r (λ _. stage (hosted (now (host .exit))) (now (writer .exit)) (vec-items (now (events .exit))) ≡ named (stage (hosted (now (host .entry))) (now (writer .entry)) (vec-items (now (events .entry))))) ⌝ }
+    ensures { λ r. ⌜ made r (λ _. stage (hosted (now (host .exit))) (now (peer .exit)) (vec-items (now (events .exit))) ≡ named (stage (hosted (now (host .entry))) (now (peer .entry)) (vec-items (now (events .entry))))) ⌝ }
 {
-    if is_connected(host, writer) {
+    if is_connected(host, peer) {
         return Ok(());
     }
-    join(host, writer, events)
+    join(host, peer, events)
 }

@@ -1,24 +1,18 @@
 // The room plays commands, one after another.
 ghost use mathlib.Core.Path.{_≡_};
-ghost use mathlib.Core.Bool.{cond};
-ghost use mathlib.Core.List.{[]};
 ghost use Prim.Native.Nat.{_<_};
-ghost use lib.Dec.{ltb};
-ghost use lib.ListN.{length, getD};
-ghost use Rattle.std.specs.Of.Vec.{vec-items};
 ghost use Rattle.std.specs.Vec.{made};
-ghost use Rattle.std.specs.declared.option.Option.the-variants.{Some, None};
 ghost use Rattle.text.specs.Texts.{numbers};
-ghost use Rattle.room.specs.Scenes.{hosted, writerOf, roomState, acting, opening, waiting, told, with, withEach, round, scene, ended, anyEnded, settling, crashing, playing};
+ghost use Rattle.room.specs.Scenes.{hosted, peerOf, roomState, acting, opening, waiting, told, with, withEach, round, scene, ended, anyEnded, settling, crashing, playing};
 use crate::acting::act;
 use crate::action::Action;
 use crate::command::Command;
 use crate::event::Event;
 use crate::host::Host;
 use crate::joining::is_connected;
-use crate::message::Message;
+use crate::peer::Peer;
+use crate::room::PEERS;
 use crate::room::Room;
-use crate::writer::Writer;
 use client::client::Client;
 use client::client::PENDING_CAPACITY;
 use server::server::Server;
@@ -28,13 +22,13 @@ use std::collections::VecDeque;
 use text::document::Document;
 use text::document::RECORD_CAPACITY;
 
-// A writer that has not joined.
-fn waiting_writer(heap: Global, site: u8) -> Result<Writer, AllocError>
+// A peer that has not joined.
+fn waiting_peer(heap: Global, site: u8) -> Result<Peer, AllocError>
     requires { ⌜ site < 16 ⌝ }
-    ensures { λ r. ⌜ made r (λ w. writerOf w ≡ waiting site) ⌝ }
+    ensures { λ r. ⌜ made r (λ w. peerOf w ≡ waiting site) ⌝ }
 {
     let text = Document::with_capacity(heap, RECORD_CAPACITY + PENDING_CAPACITY)?;
-    Ok(Writer {
+    Ok(Peer {
         joined: false,
         client: Client::new(site, 0),
         text,
@@ -58,14 +52,14 @@ impl Room {
         ensures { λ r. ⌜ made r (λ m. roomState m ≡ opening) ⌝ }
     {
         let host = empty_host(heap)?;
-        let first = waiting_writer(heap, 0)?;
-        let second = waiting_writer(heap, 1)?;
-        let third = waiting_writer(heap, 2)?;
-        let fourth = waiting_writer(heap, 3)?;
-        let writers = vec![in heap; first, second, third, fourth]?;
+        let first = waiting_peer(heap, 0)?;
+        let second = waiting_peer(heap, 1)?;
+        let third = waiting_peer(heap, 2)?;
+        let fourth = waiting_peer(heap, 3)?;
+        let peers = vec![in heap; first, second, third, fourth]?;
         Ok(Room {
             host,
-            writers,
+            peers,
             events: Vec::new(heap),
         })
     }
@@ -91,46 +85,46 @@ impl Room {
         self.host.text.letters()
     }
 
-    // Has this writer joined?
-    pub fn has_joined(&self, writer: u8) -> bool
-        ensures { λ r. ⌜ r ≡ scene writer (roomState (now (self .entry))) .writer .joined ⌝ }
+    // Has this peer joined?
+    pub fn has_joined(&self, peer: u8) -> bool
+        ensures { λ r. ⌜ r ≡ scene peer (roomState (now (self .entry))) .peer .joined ⌝ }
     {
-        match self.writers.get(writer as usize) {
-            Some(writer) => writer.joined,
+        match self.peers.get(peer as usize) {
+            Some(peer) => peer.joined,
             None => false,
         }
     }
 
-    // The letters of a writer's text; of one that there is not, none.
-    pub fn letters_of(&self, writer: u8) -> &[u32]
-        ensures { λ r. ⌜ now r ≡ numbers (scene writer (roomState (now (self .entry))) .writer .replica .text) ⌝ }
+    // The letters of a peer's text; of one that there is not, none.
+    pub fn letters_of(&self, peer: u8) -> &[u32]
+        ensures { λ r. ⌜ now r ≡ numbers (scene peer (roomState (now (self .entry))) .peer .replica .text) ⌝ }
     {
-        match self.writers.get(writer as usize) {
-            Some(writer) => writer.text.letters(),
+        match self.peers.get(peer as usize) {
+            Some(peer) => peer.text.letters(),
             None => &[],
         }
     }
 
-    // Something is done with one writer.
-    fn ask(&mut self, writer: usize, action: Action) -> Result<(), AllocError>
-        requires { ⌜ writer < 4 ⌝ }
-        ensures { λ r. ⌜ made r (λ _. roomState (now (self .exit)) ≡ with writer (acting action) (roomState (now (self .entry)))) ⌝ }
+    // Something is done with one peer.
+    fn ask(&mut self, peer: usize, action: Action) -> Result<(), AllocError>
+        requires { ⌜ peer < 4 ⌝ }
+        ensures { λ r. ⌜ made r (λ _. roomState (now (self .exit)) ≡ with peer (acting action) (roomState (now (self .entry)))) ⌝ }
     {
         act(
             &mut self.host,
-            &mut self.writers[writer],
+            &mut self.peers[peer],
             action,
             &mut self.events,
         )?;
         Ok(())
     }
 
-    // The same with all writers, by number.
+    // The same with all peers, by number.
     fn ask_all(&mut self, action: Action) -> Result<(), AllocError>
         ensures { λ r. ⌜ made r (λ _. roomState (now (self .exit)) ≡ withEach 4 (acting action) (roomState (now (self .entry)))) ⌝ }
     {
-        for writer in 0..4 {
-            self.ask(writer, action)?;
+        for peer in 0..PEERS as usize {
+            self.ask(peer, action)?;
         }
         Ok(())
     }
@@ -144,21 +138,21 @@ impl Room {
         self.ask_all(Action::SeeAll)
     }
 
-    // Has this writer joined, and no connection any more?
-    fn has_ended(&self, writer: usize) -> bool
-        requires { ⌜ writer < 4 ⌝ }
-        ensures { λ r. ⌜ r ≡ ended (scene writer (roomState (now (self .entry)))) ⌝ }
+    // Has this peer joined, and no connection any more?
+    fn has_ended(&self, peer: usize) -> bool
+        requires { ⌜ peer < 4 ⌝ }
+        ensures { λ r. ⌜ r ≡ ended (scene peer (roomState (now (self .entry)))) ⌝ }
     {
-        let writer = &self.writers[writer];
-        writer.joined && !is_connected(&self.host, writer)
+        let peer = &self.peers[peer];
+        peer.joined && !is_connected(&self.host, peer)
     }
 
     fn any_ended(&self) -> bool
         ensures { λ r. ⌜ r ≡ anyEnded 4 (roomState (now (self .entry))) ⌝ }
     {
         let mut any = false;
-        for writer in 0..4 {
-            any |= self.has_ended(writer);
+        for peer in 0..PEERS as usize {
+            any |= self.has_ended(peer);
         }
         any
     }
@@ -186,9 +180,9 @@ impl Room {
         ensures { λ r. ⌜ made r (λ _. roomState (now (self .exit)) ≡ playing command (roomState (now (self .entry)))) ⌝ }
     {
         match command {
-            Command::Ask { writer, action } => {
-                if writer < 4 {
-                    self.ask(writer as usize, action)
+            Command::Ask { peer, action } => {
+                if peer < PEERS {
+                    self.ask(peer as usize, action)
                 } else {
                     Ok(())
                 }

@@ -1,4 +1,4 @@
-// The server takes what is under way from a writer.
+// The server takes what is under way from a peer.
 ghost use mathlib.Core.Path.{_≡_};
 ghost use mathlib.Core.List.{_++_};
 ghost use Rattle.std.specs.Of.Vec.{vec-items};
@@ -8,7 +8,7 @@ ghost use Rattle.room.specs.Scenes.{hosted, stage, refusalOf, refusedBy, isAcc
 use crate::event::Event;
 use crate::host::Host;
 use crate::message::Message;
-use crate::writer::Writer;
+use crate::peer::Peer;
 use operation::entry::Submission;
 use server::refusal::Refusal;
 use std::alloc::AllocError;
@@ -77,16 +77,16 @@ fn is_operation(message: Message) -> bool
     }
 }
 
-// The server takes the writer's oldest operation, with any revision before it.
+// The server takes the peer's oldest operation, with any revision before it.
 pub(crate) fn take(
     host: &mut Host,
-    writer: &mut Writer,
+    peer: &mut Peer,
     events: &mut Vec<Event>,
 ) -> Result<(), AllocError>
-    ensures { λ r. ⌜ made r (λ _. stage (hosted (now (host .exit))) (now (writer .exit)) (vec-items (now (events .exit))) ≡ taking (stage (hosted (now (host .entry))) (now (writer .entry)) (vec-items (now (events .entry))))) ⌝ }
+    ensures { λ r. ⌜ made r (λ _. stage (hosted (now (host .exit))) (now (peer .exit)) (vec-items (now (events .exit))) ≡ taking (stage (hosted (now (host .entry))) (now (peer .entry)) (vec-items (now (events .entry))))) ⌝ }
 {
-    let site = writer.client.site();
-    while let Some(message) = writer.queue.pop_front() {
+    let site = peer.client.site();
+    while let Some(message) = peer.queue.pop_front() {
         if !receive(host, site, message, events)? {
             return Ok(());
         }
@@ -98,16 +98,16 @@ pub(crate) fn take(
     Ok(())
 }
 
-// The server takes all that is under way from the writer, as long as nothing is refused.
+// The server takes all that is under way from the peer, as long as nothing is refused.
 pub(crate) fn take_all(
     host: &mut Host,
-    writer: &mut Writer,
+    peer: &mut Peer,
     events: &mut Vec<Event>,
 ) -> Result<(), AllocError>
-    ensures { λ r. ⌜ made r (λ _. stage (hosted (now (host .exit))) (now (writer .exit)) (vec-items (now (events .exit))) ≡ takingAll (stage (hosted (now (host .entry))) (now (writer .entry)) (vec-items (now (events .entry))))) ⌝ }
+    ensures { λ r. ⌜ made r (λ _. stage (hosted (now (host .exit))) (now (peer .exit)) (vec-items (now (events .exit))) ≡ takingAll (stage (hosted (now (host .entry))) (now (peer .entry)) (vec-items (now (events .entry))))) ⌝ }
 {
-    let site = writer.client.site();
-    while let Some(message) = writer.queue.pop_front() {
+    let site = peer.client.site();
+    while let Some(message) = peer.queue.pop_front() {
         if !receive(host, site, message, events)? {
             return Ok(());
         }

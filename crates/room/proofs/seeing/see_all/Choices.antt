@@ -6,5 +6,5 @@ use Rattle.room.proofs.seeing.see_all.Given as given
 
 abbrev pub Inv-loop-turn : given.InvT-loop-turn
 Inv-loop-turn l =
-    seeingUpTo (l .left - l .-turn) (stage (hosted (l .host)) (l .writer) (vec-items (l .events)))
-    ≡ seeingUpTo (l .left) (stage (hosted (l .entry .host)) (l .entry .writer) (vec-items (l .entry .events)))
+    seeingUpTo (l .left - l .-turn) (stage (hosted (l .host)) (l .peer) (vec-items (l .events)))
+    ≡ seeingUpTo (l .left) (stage (hosted (l .entry .host)) (l .entry .peer) (vec-items (l .entry .events)))

@@ -6,8 +6,8 @@ use Rattle.room.proofs.taking.take.Given as given
 
 abbrev pub Inv-loop-message : given.InvT-loop-message
 Inv-loop-message l =
-    (l .site ≡ l .writer .client .site)
-    × (taking (stage (hosted (l .host)) (l .writer) (vec-items (l .events))) ≡ taking (stage (hosted (l .entry .host)) (l .entry .writer) (vec-items (l .entry .events))))
+    (l .site ≡ l .peer .client .site)
+    × (taking (stage (hosted (l .host)) (l .peer) (vec-items (l .events))) ≡ taking (stage (hosted (l .entry .host)) (l .entry .peer) (vec-items (l .entry .events))))
 
 abbrev pub μ-loop-message : given.MeasureT-loop-message
-μ-loop-message l = deque-len (l .writer .queue)
+μ-loop-message l = deque-len (l .peer .queue)

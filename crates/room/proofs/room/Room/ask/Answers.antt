@@ -8,5 +8,5 @@ use Rattle.room.proofs.room.Room.ask.Needs as need
 pub returns : need.returns
 returns c =
     let r = c .args .self .now in
-    done-with (hosted (r .host)) (vec-items (r .writers)) (vec-items (r .events)) (c .args .writer) (c .index-mut .result .now) (omega arith) (c .index-mut .ensures .value)
-    (acting (c .args .action)) (hosted (c .act .last .host)) (c .act .last .writer) (vec-items (c .act .last .events)) (c .in-Continue-act .ensures tt)
+    done-with (hosted (r .host)) (vec-items (r .peers)) (vec-items (r .events)) (c .args .peer) (c .index-mut .result .now) (omega arith) (c .index-mut .ensures .value)
+    (acting (c .args .action)) (hosted (c .act .last .host)) (c .act .last .peer) (vec-items (c .act .last .events)) (c .in-Continue-act .ensures tt)

@@ -6,18 +6,18 @@ use Rattle.room.specs.Scenes.{hosted, stage, connected, ended}
 use Rattle.room.proofs.Rooms.{on-stage}
 use Rattle.room.proofs.room.Room.has_ended.Needs as need
 
-pub returns-then-writer : need.returns-then-writer
-returns-then-writer c =
+pub returns-then-peer : need.returns-then-peer
+returns-then-peer c =
     let r = c .args .self .now in
-    let x = c .index-writer .result .now in
+    let x = c .index-peer .result .now in
     let s = stage (hosted (r .host)) x (vec-items (r .events)) in
-    ap not (c .is-connected .ensures) ∙ ap (λ j. j && not (connected s)) (sym (c .if-writer .taken))
-    ∙ ap ended (on-stage (hosted (r .host)) (vec-items (r .writers)) (vec-items (r .events)) (c .args .writer) x (omega arith) (c .index-writer .ensures))
+    ap not (c .is-connected .ensures) ∙ ap (λ j. j && not (connected s)) (sym (c .if-peer .taken))
+    ∙ ap ended (on-stage (hosted (r .host)) (vec-items (r .peers)) (vec-items (r .events)) (c .args .peer) x (omega arith) (c .index-peer .ensures))
 
-pub returns-else-writer : need.returns-else-writer
-returns-else-writer c =
+pub returns-else-peer : need.returns-else-peer
+returns-else-peer c =
     let r = c .args .self .now in
-    let x = c .index-writer .result .now in
+    let x = c .index-peer .result .now in
     let s = stage (hosted (r .host)) x (vec-items (r .events)) in
-    c .if-writer .left ∙ ap (λ j. j && not (connected s)) (sym (c .if-writer .left))
-    ∙ ap ended (on-stage (hosted (r .host)) (vec-items (r .writers)) (vec-items (r .events)) (c .args .writer) x (omega arith) (c .index-writer .ensures))
+    c .if-peer .left ∙ ap (λ j. j && not (connected s)) (sym (c .if-peer .left))
+    ∙ ap ended (on-stage (hosted (r .host)) (vec-items (r .peers)) (vec-items (r .events)) (c .args .peer) x (omega arith) (c .index-peer .ensures))
