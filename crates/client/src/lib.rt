@@ -5,5 +5,3 @@ pub mod kind;
 mod pending;
 pub mod refusal;
 pub mod seeing;
-#[cfg(test)]
-mod tests;

@@ -9,5 +9,3 @@ pub mod session;
 mod sessions;
 mod starting;
 mod taking;
-#[cfg(test)]
-mod tests;

@@ -3,5 +3,3 @@ pub mod document;
 mod gap;
 mod lent;
 pub mod refusal;
-#[cfg(test)]
-mod tests;

@@ -1,10 +1,10 @@
 // A text of up to three letters, from empty to full and back, at both ends and beyond.
-use crate::document::Document;
-use crate::refusal::Refusal;
-use crate::refusal::RefusalDebug;
-use crate::refusal::RefusalPartialEq;
 use operation::operation::Operation;
 use std::test::*;
+use text::document::Document;
+use text::refusal::Refusal;
+use text::refusal::RefusalDebug;
+use text::refusal::RefusalPartialEq;
 
 fn insert(place: u32, letter: u32) -> Operation {
     Operation::Insert {

@@ -1,11 +1,4 @@
 // Two clients write at once; others are refused, go and come back.
-use crate::joined::Joined;
-use crate::joined::JoinedDebug;
-use crate::joined::JoinedPartialEq;
-use crate::refusal::Refusal;
-use crate::refusal::RefusalDebug;
-use crate::refusal::RefusalPartialEq;
-use crate::server::Server;
 use operation::entry::Entry;
 use operation::entry::EntryDebug;
 use operation::entry::EntryPartialEq;
@@ -13,6 +6,13 @@ use operation::entry::Submission;
 use operation::operation::Operation;
 use operation::operation::OperationDebug;
 use operation::operation::OperationPartialEq;
+use server::joined::Joined;
+use server::joined::JoinedDebug;
+use server::joined::JoinedPartialEq;
+use server::refusal::Refusal;
+use server::refusal::RefusalDebug;
+use server::refusal::RefusalPartialEq;
+use server::server::Server;
 use std::test::*;
 use text::document::Document;
 

@@ -1,12 +1,12 @@
 // Examples of the table, and of a list.
-use crate::entry::Entry;
-use crate::entry::EntryDebug;
-use crate::entry::EntryPartialEq;
-use crate::operation::Operation;
-use crate::operation::OperationDebug;
-use crate::operation::OperationPartialEq;
-use crate::transform::transform;
-use crate::transform::transform_through;
+use operation::entry::Entry;
+use operation::entry::EntryDebug;
+use operation::entry::EntryPartialEq;
+use operation::operation::Operation;
+use operation::operation::OperationDebug;
+use operation::operation::OperationPartialEq;
+use operation::transform::transform;
+use operation::transform::transform_through;
 use std::test::*;
 
 fn insert(site: u8, place: u32) -> Operation {

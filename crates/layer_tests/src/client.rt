@@ -1,9 +1,9 @@
 // A client of site 1 types, sees its own entries and another's, and refuses.
-use crate::client::Client;
-use crate::client::PENDING_CAPACITY;
-use crate::refusal::Refusal;
-use crate::refusal::RefusalDebug;
-use crate::refusal::RefusalPartialEq;
+use client::client::Client;
+use client::client::PENDING_CAPACITY;
+use client::refusal::Refusal;
+use client::refusal::RefusalDebug;
+use client::refusal::RefusalPartialEq;
 use operation::entry::Entry;
 use operation::entry::Submission;
 use operation::entry::SubmissionDebug;
