@@ -59,7 +59,7 @@ module _ {A : Type 0} (k : Kind A) where
     pub acknowledged : ℕ
     pub last : ℕ
 
-  -- A RESTART of the program leaves `highest`, `site` and `performed-so-far`, and nothing else.
+  -- A RESTART of the program leaves `highest`, `site` and `performed-so-far`, and nothing else; `lost` is no part of the program, it tells what it has reported.
   -- highest: the highest connection that it ever took; performed-so-far: how many operations of its site it knows of;
   -- asking: it wants a connection; lost: what it has reported as lost, the newest first
   pub record ClientNode : Type 0 where
@@ -124,7 +124,6 @@ module _ {A : Type 0} (k : Kind A) where
       (record { state = queued (revision (s .replica .revision)) s; sent = atOnce (revision (s .replica .revision)) s })
       (record { state = s; sent = [] })
 
-  -- the number of the j-th operation among the messages, 0 for none
   abbrev pub isOperation : Message k → Bool
   isOperation (operation m) = true
   isOperation (entry e) = false
@@ -136,6 +135,7 @@ module _ {A : Type 0} (k : Kind A) where
   operationsIn [] = 0
   operationsIn (m ∷ ms) = cond (isOperation m) (suc (operationsIn ms)) (operationsIn ms)
 
+  -- the number of the j-th operation among the messages, where there are so many; 0 for j = 0
   unfoldable pub numberOf : ℕ → List (Message k) → ℕ
   numberOf zero ms = 0
   numberOf (suc j) [] = 0

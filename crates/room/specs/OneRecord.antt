@@ -61,9 +61,10 @@ module _ {A : Type 0} (k : Kind A) where
   abbrev pub Quiescent : Net k → Type 0
   Quiescent n = (c : ℕ) → Current k n c → Connected k n c × NoOperation (n .lives c .queue) × (n .lives c .replica .revision ≡ length (n .server .history))
 
-  -- when nothing is under way, every screen shows the server's text, and nothing is pending
+  -- a client that has its connection and nothing under way shows the server's text, and has nothing pending; so when nothing is under way at all, everybody does
   abbrev pub Convergence : Type 0
-  Convergence = (n : Net k) → Reachable k n → Quiescent n → (c : ℕ) → Current k n c → (n .lives c .replica .text ≡ n .server .text) × (n .lives c .replica .pending ≡ [])
+  Convergence = (n : Net k) → Reachable k n → (c : ℕ) → Connected k n c → NoOperation (n .lives c .queue) → n .lives c .replica .revision ≡ length (n .server .history) →
+      (n .lives c .replica .text ≡ n .server .text) × (n .lives c .replica .pending ≡ [])
 
   -- it can always come to that with nobody typing any more: by taking, hearing and seeing alone where every client has its connection,
   -- and else with joins too
@@ -93,34 +94,32 @@ module _ {A : Type 0} (k : Kind A) where
   abbrev pub UntilStruck : Type 0
   UntilStruck = (n : Net k) → Reachable k n → (v : Viewer) → Exists n v → (x : A) → PutIn n v x → (Struck n v x → ⊥) → x ∈ k .letters (textOf n v)
 
-  -- what is typed stands on the own screen at once
+  -- what is typed is done to the own screen at once
   abbrev pub AtOnce : Type 0
-  AtOnce = (n m : Net k) → Reachable k n → (s : Step k n m) → (c : ℕ) (d : Deed k) → m .lives c .deeds ≡ n .lives c .deeds ++ d ∷ [] →
-      (m .lives c .replica .text ≡ k .apply (d .op) (d .before)) × ((x : A) → x ∈ k .puts (d .op) → x ∈ k .letters (m .lives c .replica .text))
+  AtOnce = (n m : Net k) → Reachable k n → Step k n m → (c : ℕ) (d : Deed k) → m .lives c .deeds ≡ n .lives c .deeds ++ d ∷ [] →
+      (d .before ≡ n .lives c .replica .text) × (m .lives c .replica .text ≡ k .apply (d .op) (d .before)) × ((x : A) → x ∈ k .puts (d .op) → x ∈ k .letters (m .lives c .replica .text))
 
-  -- the client's own deletion of x that was lost: it struck x in an earlier life, and the history never got it
-  pub record LostDeletion (n : Net k) (p : ℕ) (x : A) : Type 0 where
-    pub by : ℕ
-    pub own : n .lives by .client ≡ p
-    pub over : Current k n by → ⊥
+  -- a deletion of x that was lost: it was performed in life c by the time of m, and the history does not have it at the time of o, when the client has a later life d
+  pub record LostDeletion (m o : Net k) (c d : ℕ) (x : A) : Type 0 where
+    pub earlier : c < d
     pub deed : Deed k
-    pub lost : deed ∈ drop (countOf by (n .owners)) (n .lives by .deeds)
+    pub lost : deed ∈ drop (countOf c (o .owners)) (m .lives c .deeds)
     pub strikes-it : x ∈ k .strikes (deed .op) (deed .before)
 
-  -- what has left a text never stands there again; on a screen, over all its lives, with the one exception of the client's own deletions that were lost
+  -- what has left a text never stands there again; on a screen, over all its lives, with one exception: in the life in which the letter was gone, the client had struck it itself, and that was lost
   pub record NeverBack : Type 0 where
     pub of-server : (n m o : Net k) → Reachable k n → Path k n m → Path k m o → (x : A) →
         x ∈ k .letters (n .server .text) → (x ∈ k .letters (m .server .text) → ⊥) → x ∈ k .letters (o .server .text) → ⊥
     pub of-screen : (n m o : Net k) → Reachable k n → Path k n m → Path k m o → (b c d : ℕ) → Current k n b → Current k m c → Current k o d →
         n .lives b .client ≡ o .lives d .client → m .lives c .client ≡ o .lives d .client → (x : A) →
         x ∈ k .letters (n .lives b .replica .text) → (x ∈ k .letters (m .lives c .replica .text) → ⊥) → x ∈ k .letters (o .lives d .replica .text) →
-        LostDeletion o (o .lives d .client) x
+        LostDeletion m o c d x
     pub of-life : (n m o : Net k) → Reachable k n → Path k n m → Path k m o → (c : ℕ) → c < n .connections → (x : A) →
         x ∈ k .letters (n .lives c .replica .text) → (x ∈ k .letters (m .lives c .replica .text) → ⊥) → x ∈ k .letters (o .lives c .replica .text) → ⊥
 
-  -- the number of operations that are lost when a client joins anew is what it performed in that life and the history does not have, and these are the last ones
-  abbrev pub LostAreLast : Type 0
-  LostAreLast = (n : Net k) → Reachable k n → (c : ℕ) → c < n .connections → countOf c (n .owners) ≤ length (n .lives c .deeds)
+  -- the history has no more of a connection than was performed in it; the rest is lost when the client joins anew
+  abbrev pub TakenWasPerformed : Type 0
+  TakenWasPerformed = (n : Net k) → Reachable k n → (c : ℕ) → countOf c (n .owners) ≤ length (n .lives c .deeds)
 
   pub record OneRecord : Type 0 where
     pub convergence : Convergence
@@ -131,4 +130,4 @@ module _ {A : Type 0} (k : Kind A) where
     pub until-struck : UntilStruck
     pub at-once : AtOnce
     pub never-back : NeverBack
-    pub lost-are-last : LostAreLast
+    pub taken-was-performed : TakenWasPerformed

@@ -12,7 +12,7 @@ use Rattle.operation.specs.Letters.{_∈_, Once, Apart, Before}
 use Rattle.operation.specs.Laws.{Kind}
 use Rattle.room.specs.Runs.{at, Deed}
 use Rattle.room.specs.OneRecord.{countOf}
-use Rattle.room.specs.Nodes.{Datagram, Reply, ClientNode, Session, firstStart, restarted, performs, clientReceives, clientTicks, ServerNode, Seating, ServerReply, entries, opened, endsLine, serverReceives, serverTicks}
+use Rattle.room.specs.Nodes.{Datagram, Reply, ask, operationsIn, ClientNode, Session, firstStart, restarted, performs, clientReceives, clientTicks, ServerNode, Seating, ServerReply, entries, opened, endsLine, serverReceives, serverTicks}
 
 -- Nodes, and for each line all that was ever sent on it, up to the server and down to the client.
 -- For the statements alone: of each entry the connection that it came over; of each connection its line, its site and what was performed in it; every letter that was ever typed.
@@ -73,20 +73,21 @@ module _ {A : Type 0} (k : Kind A) where
   connectionOf None = 0
   connectionOf (Some s) = s .connection
 
-  abbrev pub siteOfSeat : Option (Seating k) → ℕ
-  siteOfSeat None = 0
-  siteOfSeat (Some s) = s .site
+  abbrev pub siteGiven : Option ℕ → ℕ
+  siteGiven None = 0
+  siteGiven (Some i) = i
 
-  -- the server's node has changed because of what came on line l: whose entry it was that came to its history, and whose connection was given
-  abbrev pub withServer : ℕ → ServerNode k → (ℕ → List (Datagram k)) → World k → World k
-  withServer l n sent w = record {
+  -- the server's node has changed because of what came on line l, where a client gets site i if it asks for a connection:
+  -- whose entry it was that came to the history, and whose connection was given
+  abbrev pub withServer : ℕ → Option ℕ → ServerNode k → (ℕ → List (Datagram k)) → World k → World k
+  withServer l i n sent w = record {
     server = n;
     clients = w .clients;
     up = w .up;
     down = λ j. w .down j ++ sent j;
     owners = take (length (n .server .history)) (w .owners ++ connectionOf (w .server .lines l) ∷ []);
     line-of = cond (eqb (n .connections) (w .server .connections)) (w .line-of) (at (n .connections) l (w .line-of));
-    site-of = cond (eqb (n .connections) (w .server .connections)) (w .site-of) (at (n .connections) (siteOfSeat (n .lines l)) (w .site-of));
+    site-of = cond (eqb (n .connections) (w .server .connections)) (w .site-of) (at (n .connections) (siteGiven i) (w .site-of));
     deeds = w .deeds;
     typed = w .typed;
   }
@@ -96,6 +97,20 @@ module _ {A : Type 0} (k : Kind A) where
   Free w l None = Unit {0}
   Free w l (Some i) = (j : ℕ) (s : Seating k) → (j ≡ l → ⊥) → w .server .lines j ≡ Some s → s .site ≡ i → ⊥
 
+  -- nothing is under way any more
+  abbrev pub emptied : World k → World k
+  emptied w = record {
+    server = w .server;
+    clients = w .clients;
+    up = λ l. [];
+    down = λ l. [];
+    owners = w .owners;
+    line-of = w .line-of;
+    site-of = w .site-of;
+    deeds = w .deeds;
+    typed = w .typed;
+  }
+
   pub data Step (w : World k) : World k → Type 0 where
     -- somebody types or strikes, letters that nobody typed before
     types : (l : ℕ) (o : k .Op) (s : Session k) → w .clients l .session ≡ Some s → k .site o ≡ w .clients l .site → k .Fits o (s .replica .text) →
@@ -103,19 +118,21 @@ module _ {A : Type 0} (k : Kind A) where
     -- something that was sent comes
     client-receives : (l : ℕ) (d : Datagram k) → d ∈ w .down l → Step w (afterClient l (clientReceives k d (w .clients l)) w)
     server-receives : (l : ℕ) (i : Option ℕ) (d : Datagram k) → Free w l i → d ∈ w .up l →
-        Step w (withServer l (serverReceives k l i d (w .server) .state) (serverReceives k l i d (w .server) .sent) w)
+        Step w (withServer l i (serverReceives k l i d (w .server) .state) (serverReceives k l i d (w .server) .sent) w)
     -- something comes cut short: it is refused, and nothing changes
     cut-short : Step w w
+    -- all that is under way is lost for good
+    loses : Step w (emptied w)
     client-ticks : (l : ℕ) → Step w (afterClient l (clientTicks k (w .clients l)) w)
-    server-ticks : (l : ℕ) → Step w (withServer l (w .server) (serverTicks k l (w .server) .sent) w)
+    server-ticks : (l : ℕ) → Step w (withServer l None (w .server) (serverTicks k l (w .server) .sent) w)
     -- a client's program restarts; the server ends a connection, for a limit or a refusal
     restarts : (l : ℕ) → Step w (afterClient l (record { state = restarted k (w .clients l); sent = [] }) w)
-    ends : (l : ℕ) → Step w (withServer l (endsLine k l (w .server)) (λ j. []) w)
+    ends : (l : ℕ) → Step w (withServer l None (endsLine k l (w .server)) (λ j. []) w)
     -- The server crashes. Whatever it answers is synced before it leaves, so the file is what it was, and some first part of what it was appending because of d;
     -- nothing of that has left. It starts again from the file.
-    crashes : Step w (withServer 0 (opened k (w .server .file)) (λ j. []) w)
+    crashes : Step w (withServer 0 None (opened k (w .server .file)) (λ j. []) w)
     crashes-in : (l : ℕ) (i : Option ℕ) (d : Datagram k) (r : ℕ) → Free w l i → d ∈ w .up l → length (w .server .file) ≤ r →
-        Step w (withServer l (opened k (take r (serverReceives k l i d (w .server) .state .file))) (λ j. []) w)
+        Step w (withServer l i (opened k (take r (serverReceives k l i d (w .server) .state .file))) (λ j. []) w)
 
   -- the programs' own steps, with nobody typing and no fault
   abbrev pub Quiet : (w v : World k) → Step w v → Type 0
@@ -123,12 +140,27 @@ module _ {A : Type 0} (k : Kind A) where
   Quiet w _ (client-receives l d m) = Unit {0}
   Quiet w _ (server-receives l i d f m) = Unit {0}
   Quiet w _ cut-short = Unit {0}
+  Quiet w _ loses = ⊥
   Quiet w _ (client-ticks l) = Unit {0}
   Quiet w _ (server-ticks l) = Unit {0}
   Quiet w _ (restarts l) = ⊥
   Quiet w _ (ends l) = ⊥
   Quiet w _ crashes = ⊥
   Quiet w _ (crashes-in l i d r f m s) = ⊥
+
+  -- the same, and no request for a connection comes
+  abbrev pub Calm : (w v : World k) → Step w v → Type 0
+  Calm w _ (types l o s e i f x a) = ⊥
+  Calm w _ (client-receives l d m) = Unit {0}
+  Calm w _ (server-receives l i d f m) = d ≡ ask k → ⊥
+  Calm w _ cut-short = Unit {0}
+  Calm w _ loses = ⊥
+  Calm w _ (client-ticks l) = Unit {0}
+  Calm w _ (server-ticks l) = Unit {0}
+  Calm w _ (restarts l) = ⊥
+  Calm w _ (ends l) = ⊥
+  Calm w _ crashes = ⊥
+  Calm w _ (crashes-in l i d r f m s) = ⊥
 
   pub data PathBy (P : (w v : World k) → Step w v → Type 0) (w : World k) : World k → Type 0 where
     here : PathBy P w w
@@ -190,18 +222,28 @@ module _ {A : Type 0} (k : Kind A) where
   abbrev pub Quiescent : World k → Type 0
   Quiescent w = (l : ℕ) → 0 < w .clients l .highest → Settled w l
 
+  -- a client with nothing under way shows the server's text, and has nothing pending; so when nothing is under way at all, everybody does
   abbrev pub Convergence : Type 0
-  Convergence = (w : World k) → Reachable w → Quiescent w → (l : ℕ) (s : Session k) → w .clients l .session ≡ Some s →
-      (s .replica .text ≡ w .server .server .text) × (s .replica .pending ≡ [])
+  Convergence = (w : World k) → Reachable w → (l : ℕ) (e : Settled w l) → (e .session .replica .text ≡ w .server .server .text) × (e .session .replica .pending ≡ [])
 
-  -- it can always come to that, by what the programs do by themselves
-  pub record Quiesces (w : World k) : Type 0 where
+  -- both ends of a line have one connection
+  pub record Joint (w : World k) (l : ℕ) : Type 0 where
+    pub session : Session k
+    pub seat : Seating k
+    pub has : w .clients l .session ≡ Some session
+    pub given : w .server .lines l ≡ Some seat
+    pub one : session .connection ≡ seat .connection
+
+  -- It can always come to that, by what the programs do by themselves; and where both ends have their connections still, without a new one, so that nothing is lost.
+  -- Since all that is under way may be lost before, this is by what is sent again.
+  pub record Quiesces (P : (w v : World k) → Step w v → Type 0) (w : World k) : Type 0 where
     pub end : World k
-    pub path : PathBy Quiet w end
+    pub path : PathBy P w end
     pub quiescent : Quiescent end
 
-  abbrev pub CanQuiesce : Type 0
-  CanQuiesce = (w : World k) → Reachable w → Quiesces w
+  pub record CanQuiesce : Type 0 where
+    pub always : (w : World k) → Reachable w → Quiesces Quiet w
+    pub connected : (w : World k) → Reachable w → ((l : ℕ) → 0 < w .clients l .highest → Joint w l) → Quiesces Calm w
 
   abbrev pub PairwiseOrder : Type 0
   PairwiseOrder = (w u : World k) → Reachable w → Path w u → (a b : View) → Shown w a → Shown u b → (x y : A) →
@@ -216,34 +258,41 @@ module _ {A : Type 0} (k : Kind A) where
   abbrev pub UntilStruck : Type 0
   UntilStruck = (w : World k) → Reachable w → (v : View) → Shown w v → (x : A) → PutIn w v x → (Struck w v x → ⊥) → x ∈ k .letters (v .text)
 
-  -- a deletion of x by the client of line l that was lost: performed in a connection before the one that it has, and never in the history
-  pub record LostDeletion (w : World k) (l c : ℕ) (x : A) : Type 0 where
-    pub by : ℕ
-    pub own : w .line-of by ≡ l
-    pub earlier : by < c
+  -- what is typed is done to the own screen at once
+  abbrev pub AtOnce : Type 0
+  AtOnce = (w v : World k) → Reachable w → Step w v → (l : ℕ) (s t : Session k) (d : Deed k) → w .clients l .session ≡ Some s → v .clients l .session ≡ Some t →
+      v .deeds (s .connection) ≡ w .deeds (s .connection) ++ d ∷ [] →
+      (d .before ≡ s .replica .text) × (t .replica .text ≡ k .apply (d .op) (d .before)) × ((x : A) → x ∈ k .puts (d .op) → x ∈ k .letters (t .replica .text))
+
+  -- a deletion of x that was lost: it was performed in connection c by the time of v, and the history does not have it at the time of u, when the client has a later connection d
+  pub record LostDeletion (v u : World k) (c d : ℕ) (x : A) : Type 0 where
+    pub earlier : c < d
     pub deed : Deed k
-    pub lost : deed ∈ drop (countOf by (w .owners)) (w .deeds by)
+    pub lost : deed ∈ drop (countOf c (u .owners)) (v .deeds c)
     pub strikes-it : x ∈ k .strikes (deed .op) (deed .before)
 
-  -- never back: the server's text without exception, a screen's but for the client's own deletions that were lost, and reported so when it joined anew
+  -- never back: the server's text without exception; a screen's with one: in the connection in which the letter was gone, the client had struck it itself, and that was lost
   pub record NeverBack : Type 0 where
     pub of-server : (w v u : World k) → Reachable w → Path w v → Path v u → (x : A) →
         x ∈ k .letters (w .server .server .text) → (x ∈ k .letters (v .server .server .text) → ⊥) → x ∈ k .letters (u .server .server .text) → ⊥
     pub of-screen : (w v u : World k) → Reachable w → Path w v → Path v u → (l : ℕ) (r s t : Session k) →
         w .clients l .session ≡ Some r → v .clients l .session ≡ Some s → u .clients l .session ≡ Some t → (x : A) →
-        x ∈ k .letters (r .replica .text) → (x ∈ k .letters (s .replica .text) → ⊥) → x ∈ k .letters (t .replica .text) → LostDeletion u l (t .connection) x
+        x ∈ k .letters (r .replica .text) → (x ∈ k .letters (s .replica .text) → ⊥) → x ∈ k .letters (t .replica .text) → LostDeletion v u (s .connection) (t .connection) x
 
-  -- what was acknowledged or seen is in the file, in order and once, through any crash: the history only ever grows, and is what the file's entries are
+  -- the history is what the file's entries are, and only ever grows, through any crash; what was acknowledged to a client is in it, and so is what a client has seen
   pub record Durable : Type 0 where
     pub in-file : (w : World k) → Reachable w → entries k (w .server .file) ≡ w .server .server .history
     pub grows : (w v : World k) → Reachable w → Path w v → take (length (w .server .server .history)) (v .server .server .history) ≡ w .server .server .history
+    pub acknowledged : (w : World k) → Reachable w → (l : ℕ) (s : Session k) → w .clients l .session ≡ Some s →
+        operationsIn k (take (s .acknowledged) (s .messages)) ≤ countOf (s .connection) (w .owners)
+    pub seen : (w : World k) → Reachable w → (l : ℕ) (s : Session k) → w .clients l .session ≡ Some s → s .replica .revision ≤ length (w .server .server .history)
 
-  -- The number that is reported as lost when a client takes a new text, where its line was always given one site, and no other line was:
-  -- what was performed in its last connection and is not in the history.
+  -- The number that is reported as lost when a client takes a new text is what was performed in its last connection and is not in the history,
+  -- where it gets the site that it had, and nobody else was given that in between.
   abbrev pub LostExact : Type 0
   LostExact = (w : World k) → Reachable w → (l : ℕ) (d : Datagram k) → d ∈ w .down l → (n : ℕ) → clientReceives k d (w .clients l) .state .lost ≡ n ∷ w .clients l .lost →
-      ((c : ℕ) → 0 < c → c ≤ w .server .connections → w .site-of c ≡ clientReceives k d (w .clients l) .state .site → w .line-of c ≡ l) →
-      ((c : ℕ) → 0 < c → c ≤ w .server .connections → w .line-of c ≡ l → w .site-of c ≡ clientReceives k d (w .clients l) .state .site) →
+      (0 < w .clients l .highest → w .clients l .site ≡ clientReceives k d (w .clients l) .state .site) →
+      ((c : ℕ) → w .clients l .highest < c → c < clientReceives k d (w .clients l) .state .highest → w .site-of c ≡ clientReceives k d (w .clients l) .state .site → w .line-of c ≡ l) →
       n + countOf (w .clients l .highest) (w .owners) ≡ length (w .deeds (w .clients l .highest))
 
   pub record OneRecord : Type 0 where
@@ -253,6 +302,7 @@ module _ {A : Type 0} (k : Kind A) where
     pub once : AtMostOnce
     pub only-if-typed : OnlyIfTyped
     pub until-struck : UntilStruck
+    pub at-once : AtOnce
     pub never-back : NeverBack
     pub durable : Durable
     pub lost-exact : LostExact
