@@ -63,6 +63,7 @@ pub(crate) fn join(
             }
             begin(peer, joined, &host.text);
         }
+        // This is never so: the site has just become free.
         Err(refusal) => {
             let number = refusal.number();
             events.push(Event::Refused { number })?;

@@ -18,7 +18,7 @@ use Rattle.text.specs.declared.refusal.Refusal.the-variants as text
 use Rattle.text.specs.Texts.{Letter, signed, refusal, unless, applied}
 use Rattle.text.specs.Coded.{coded}
 use Rattle.server.specs.declared.refusal.Refusal.{Refusal}
-use Rattle.server.specs.declared.refusal.Refusal.the-variants.{NotConnected, BadRevision}
+use Rattle.server.specs.declared.refusal.Refusal.the-variants.{NotConnected, BadRevision, OutOfMemory}
 use Rattle.server.specs.Sessions.{Seat, free, heard, told, ServerState, arrival, sender}
 use Rattle.server.specs.Servers.{Op, bounded, historyFull, lowest, Same, answered, afterTaking, takeRefusal, takenBounded, takeAnswer, takeAfter, withSeat, badRevision, hearAnswer, hearAfter}
 
@@ -92,6 +92,22 @@ no-reason None bad full e = refl
 no-reason (Some text.BadLetter) bad full e = absurd (let z : _≡_ {A = ℕ} 0 1 = cc in omega arith)
 no-reason (Some text.BeyondText) bad full e = absurd (let z : _≡_ {A = ℕ} 0 1 = cc in omega arith)
 no-reason (Some text.TextFull) bad full e = absurd (let z : _≡_ {A = ℕ} 0 1 = cc in omega arith)
+
+-- the rules never say that memory is wanting
+never : (b : Bool) (q : Option TextRefusal) (bad full : Bool) (e : Entry Op) → cond b (answered (lowest q bad full) e) (Err NotConnected) ≡ Err OutOfMemory → ⊥
+never false q bad full e p = let z : _≡_ {A = ℕ} 0 1 = cc in omega arith
+never true (Some text.BadLetter) bad full e p = let z : _≡_ {A = ℕ} 0 1 = cc in omega arith
+never true (Some text.BeyondText) bad full e p = let z : _≡_ {A = ℕ} 0 1 = cc in omega arith
+never true (Some text.TextFull) true full e p = let z : _≡_ {A = ℕ} 0 1 = cc in omega arith
+never true (Some text.TextFull) false full e p = let z : _≡_ {A = ℕ} 0 1 = cc in omega arith
+never true None true full e p = let z : _≡_ {A = ℕ} 0 1 = cc in omega arith
+never true None false true e p = let z : _≡_ {A = ℕ} 0 1 = cc in omega arith
+never true None false false e p = let z : _≡_ {A = ℕ} 0 1 = cc in omega arith
+
+pub memory-suffices : (n : ℕ) (m : Submission Op) (was : ServerState coded) → takeAnswer n m was ≡ Err OutOfMemory → ⊥
+memory-suffices n m was =
+    let s = was .seats (site (m .op)) in
+    never (s .connected) (refusal (min n 65536) (entry m was .op) (was .text)) (badRevision (length (was .history)) (m .revision) s) (historyFull (length (was .history))) (entry m was)
 
 -- a connected client says r, and b tells whether that is bad
 module _ (i r : ℕ) (was : ServerState coded) (yes : was .seats i .connected ≡ true) (b : Bool) (is : badRevision (length (was .history)) r (was .seats i) ≡ b) where

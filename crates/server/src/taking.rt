@@ -2,10 +2,11 @@
 ghost use mathlib.Core.Path.{_≡_};
 ghost use mathlib.Core.Bool.{true, cond};
 ghost use mathlib.Core.List.{[], _∷_, _++_};
-ghost use Prim.Native.Nat.{ℕ, _<_, min};
+ghost use Prim.Native.Nat.{ℕ, _<_, _≤_, min};
 ghost use lib.Dec.{eqb};
 ghost use lib.ListN.{length};
 ghost use Rattle.std.specs.Of.Vec.{vec-cap};
+ghost use Rattle.std.specs.declared.result.Result.the-variants.{Err};
 ghost use Rattle.operation.specs.Edits.{site as siteOf};
 ghost use Rattle.text.specs.Texts.{refused, applied};
 ghost use Rattle.text.specs.Coded.{coded};
@@ -101,7 +102,9 @@ impl Server {
 
     // Takes an operation of a client: it goes past what the client had not seen, to the end of the history, to the text and to the other clients.
     // Refused is what comes from a site without a client, and, with the connection, what does not fit.
+    // Memory is wanting only where the history has used up what it has.
     pub fn take(&mut self, text: &mut Document, submission: Submission) -> Result<Entry, Refusal>
+        ensures memory { λ r. ⌜ (r ≡ Err Refusal.OutOfMemory → (seats (now (self .entry)) (siteOf (submission .op)) .connected ≡ true) × (vec-cap (now (self .entry) .history) ≤ length (historyOf (now (self .entry))))) ⌝ }
         ensures outcome { λ r. ⌜ Taking (roomOf (now (text .entry))) submission (stateOf (now (self .entry)) (textOf (now (text .entry)))) r (stateOf (now (self .exit)) (textOf (now (text .exit)))) ⌝ }
         ensures room { λ _. ⌜ roomOf (now (text .exit)) ≡ roomOf (now (text .entry)) ⌝ }
     {
