@@ -1,4 +1,6 @@
 // One client of a text that several edit at once.
+#![tactic(auto)]
+
 pub mod client;
 pub mod editing;
 pub mod kind;

@@ -1,4 +1,6 @@
 // Operations on a text, and what one becomes that another was done before.
+#![tactic(auto)]
+
 pub mod entry;
 pub mod operation;
 mod theorems;

@@ -1,4 +1,6 @@
 // Plays a script from standard input with one server and up to four writers, and prints what the script asks for.
+#![tactic(auto)]
+
 ghost use Rattle.std.specs.Prelude.{◌≡◌};
 ghost use Rattle.rehearse.specs.Asked.{asked};
 

@@ -1,4 +1,6 @@
 // One server and four clients over queues that lose nothing: what a script plays.
+#![tactic(auto)]
+
 mod acting;
 pub mod action;
 pub mod command;

@@ -1,4 +1,6 @@
 // The server of a text that several write at once.
+#![tactic(auto)]
+
 mod entries;
 pub mod joined;
 mod joining;

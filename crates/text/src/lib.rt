@@ -1,4 +1,6 @@
 // Texts, and operations on them.
+#![tactic(auto)]
+
 pub mod document;
 mod gap;
 mod lent;
