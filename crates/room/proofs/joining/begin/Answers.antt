@@ -15,5 +15,5 @@ returns c =
     let p = c.from-peer.ensures in
     let w = c.args.peer.now in
     let fits = le-leb (length (text_of d)) (room_of w.text) (let a = w.space in let b = c.requires.room in omega arith) in
-    let t : text_of c.copy-from.new.self ≡ text_of d = c.copy-from.ensures.text ∙ ap (λ b. unless (cond b None (Some TextFull)) (text_of d) (text_of w.text)) fits in
+    let t : text_of c.copy_from.new.self ≡ text_of d = c.copy_from.ensures.text ∙ ap (λ b. unless (cond b None (Some TextFull)) (text_of d) (text_of w.text)) fits in
     λ j. record { joined = true; site = n.site j; replica = record { text = t j; pending = n.pending j; revision = n.revision j }; queue = q j; performed = p j }

@@ -3,13 +3,13 @@ use Rattle.std.specs.Str.Iter.{chars_rest}
 use Rattle.script.proofs.Characters.{none_in_bytes, none_in_nothing, none_in_two, some_in_one}
 use Rattle.script.proofs.numbers.character.Goals as goal
 
-pub returns-in-default : goal.returns-in-default
-returns-in-default c = none_in_bytes c.args.word.now c.in-default.ensures.cases.0
+pub returns-in_default : goal.returns-in_default
+returns-in_default c = none_in_bytes c.args.word.now c.in_default.ensures.cases.0
 
-pub returns-in-default-next : goal.returns-in-default-next
-returns-in-default-next c =
+pub returns-in_default-next : goal.returns-in_default-next
+returns-in_default-next c =
     let same = sym c.in-Ok.ensures.cases.0 ∙ sym c.chars-chars.ensures.rest in
-    none_in_nothing c.args.word.now (ap length same ∙ c.in-default-next.ensures.steps.0.0)
+    none_in_nothing c.args.word.now (ap length same ∙ c.in_default-next.ensures.steps.0.0)
 
 pub returns-in-Some-next : goal.returns-in-Some-next
 returns-in-Some-next c =

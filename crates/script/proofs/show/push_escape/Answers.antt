@@ -10,7 +10,7 @@ unfolding encode
 returns c =
     let n : ℕ = c.args.letter in
     let xs : List ℕ = string_bytes c.args.out.now in
-    let was : List ℕ = string_bytes c.push-hex.new.out in
-    let h : was ≡ (xs ++ codes "\\u{") ++ hex_of n = c.in-ok-push-hex.ensures ∙ ap (λ l. l ++ hex_of n) c.in-ok-push-str.ensures.bytes in
+    let was : List ℕ = string_bytes c.push_hex.new.out in
+    let h : was ≡ (xs ++ codes "\\u{") ++ hex_of n = c.in_ok-push_hex.ensures ∙ ap (λ l. l ++ hex_of n) c.in_ok-push_str.ensures.bytes in
     after_push c.push.result (string_bytes c.push.new.self) was xs (codes "}") (escape_of n) c.push.ensures.bytes
     (ap (λ l. l ++ codes "}") h ∙ append_assoc (xs ++ codes "\\u{") (hex_of n) (codes "}") ∙ append_assoc xs (codes "\\u{") (hex_of n ++ codes "}"))

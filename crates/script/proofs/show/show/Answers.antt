@@ -12,7 +12,7 @@ pub loop-letter-preserved : goal.loop-letter-preserved
 loop-letter-preserved c =
     let ns : List ℕ = c.args.letters.now in
     let i : ℕ = c.loop-letter.letter-index in
-    let h : string_bytes c.push-letter.new.out ≡ string_bytes c.loop-letter.out ++ letter_shown (get_or ns i 0) = c.in-ok-push-letter.ensures in
+    let h : string_bytes c.push_letter.new.out ≡ string_bytes c.loop-letter.out ++ letter_shown (get_or ns i 0) = c.in_ok-push_letter.ensures in
     h ∙ ap (λ l. l ++ letter_shown (get_or ns i 0)) c.loop-letter.invariant ∙ sym (shown_more ns i c.loop-letter-test.true)
 
 pub returns : goal.returns

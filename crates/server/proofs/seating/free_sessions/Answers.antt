@@ -8,6 +8,6 @@ pub loop-i-preserved : goal.loop-i-preserved
 loop-i-preserved c = (
   omega arith,
   omega arith,
-  λ j. ap (λ (ss : List Session). seats_in ss j) c.push-reserved.ensures.items
-      ∙ seats-push (vec_items c.loop-i.sessions) c.in-ok-session.session c.loop-i.invariant.2 c.in-ok-session.ensures j,
+  λ j. ap (λ (ss : List Session). seats_in ss j) c.push_reserved.ensures.items
+      ∙ seats-push (vec_items c.loop-i.sessions) c.in_ok-session.session c.loop-i.invariant.2 c.in_ok-session.ensures j,
 )

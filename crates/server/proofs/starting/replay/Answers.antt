@@ -6,15 +6,15 @@ use Rattle.server.specs.Servers.{Replayed, replayed}
 use Rattle.server.proofs.Replays.{replay_all, replay-more, replay_stop}
 use Rattle.server.proofs.starting.replay.Goals as goal
 
-pub returns-in-err-apply : goal.returns-in-err-apply
-returns-in-err-apply c =
+pub returns-in_err-apply : goal.returns-in_err-apply
+returns-in_err-apply c =
     let p = err_from_is_err_and c.from-residual.result c.from-residual.ensures.1 in
     let os = c.args.history.now in
     let k = c.loop-op.op-index in
     let room = c.loop-op.invariant.0 in
     let stop =
     c.loop-op.invariant.1 ∙ ap (λ n. replayed (min n 65536) (drop k os) (text_of c.loop-op.text)) (sym room)
-    ∙ replay_stop (min (room_of c.loop-op.text) 65536) os k (text_of c.loop-op.text) (omega arith) c.in-err-apply.field-0.0 c.in-err-apply.ensures.answer in
+    ∙ replay_stop (min (room_of c.loop-op.text) 65536) os k (text_of c.loop-op.text) (omega arith) c.in_err-apply.field-0.0 c.in_err-apply.ensures.answer in
     record {
       answer = ap refused p.1 ∙ ap Some p.2 ∙ sym (ap (λ (r : Replayed). r.failed) stop);
       text = c.apply.ensures.text ∙ sym (ap (λ (r : Replayed). r.text) stop);
@@ -28,7 +28,7 @@ loop-op-preserved c =
     let room = c.loop-op.invariant.0 in (
       c.apply.ensures.room ∙ room,
       c.loop-op.invariant.1 ∙ ap (λ n. replayed (min n 65536) (drop k os) (text_of c.loop-op.text)) (sym room)
-          ∙ replay-more (min (room_of c.loop-op.text) 65536) os k (text_of c.loop-op.text) (omega arith) c.in-ok-apply.ensures.answer
+          ∙ replay-more (min (room_of c.loop-op.text) 65536) os k (text_of c.loop-op.text) (omega arith) c.in_ok-apply.ensures.answer
           ∙ (λ t. replayed (min (room t) 65536) (drop (k + 1) os) (sym c.apply.ensures.text t)),
     )
 

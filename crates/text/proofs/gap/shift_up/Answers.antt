@@ -3,4 +3,4 @@ use Rattle.text.proofs.Moves.{moved_up}
 use Rattle.text.proofs.gap.shift_up.Goals as goal
 
 pub returns : goal.returns
-returns g c = moved_up c.args.part.now c.copy-within.new.self c.args.x _ c.requires (omega arith) c.copy-within.ensures.after
+returns g c = moved_up c.args.part.now c.copy_within.new.self c.args.x _ c.requires (omega arith) c.copy_within.ensures.after

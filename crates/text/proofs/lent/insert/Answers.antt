@@ -8,5 +8,5 @@ returns c =
     let xs = c.args.letters.now in
     let ss = c.args.sites.now in
     pairs-inserted c.args.len xs ss _ _ c.args.place c.args.letter c.args.site (omega arith) (omega arith) (omega arith)
-    (part_up xs c.shift-up.new.part c.args.len c.args.place c.args.letter (omega arith) (omega arith) c.shift-up.ensures)
-    (part_up ss c.shift-up-2.new.part c.args.len c.args.place c.args.site (omega arith) (omega arith) c.shift-up-2.ensures)
+    (part_up xs c.shift_up.new.part c.args.len c.args.place c.args.letter (omega arith) (omega arith) c.shift_up.ensures)
+    (part_up ss c.shift_up-2.new.part c.args.len c.args.place c.args.site (omega arith) (omega arith) c.shift_up-2.ensures)

@@ -7,9 +7,9 @@ returns c =
     let s = c.args.self in
     record {
       after = shifted s _ _ _
-          (moved_down s.count s.kinds c.copy-within.new.self (omega arith) (omega arith) c.copy-within.ensures.after)
-          (moved_down s.count s.places c.copy-within-2.new.self (omega arith) (omega arith) c.copy-within-2.ensures.after)
-          (moved_down s.count s.letters c.copy-within-3.new.self (omega arith) (omega arith) c.copy-within-3.ensures.after);
+          (moved_down s.count s.kinds c.copy_within.new.self (omega arith) (omega arith) c.copy_within.ensures.after)
+          (moved_down s.count s.places c.copy_within-2.new.self (omega arith) (omega arith) c.copy_within-2.ensures.after)
+          (moved_down s.count s.letters c.copy_within-3.new.self (omega arith) (omega arith) c.copy_within-3.ensures.after);
       site = refl;
       revision = refl;
     }

@@ -7,4 +7,4 @@ pub loop-peer-init : goal.loop-peer-init
 loop-peer-init c = sym (any_none (room_state c.args.self.now))
 
 pub loop-peer-preserved : goal.loop-peer-preserved
-loop-peer-preserved c = ap₂ ◌||◌ c.loop-peer.invariant c.has-ended-any.ensures ∙ sym (any_more c.loop-peer.peer (room_state c.args.self.now))
+loop-peer-preserved c = ap₂ ◌||◌ c.loop-peer.invariant c.has_ended-any.ensures ∙ sym (any_more c.loop-peer.peer (room_state c.args.self.now))

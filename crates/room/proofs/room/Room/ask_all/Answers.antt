@@ -9,4 +9,4 @@ loop-peer-init c = sym (each_none (acting c.args.action) (room_state c.args.self
 pub loop-peer-preserved : goal.loop-peer-preserved
 loop-peer-preserved c =
     let f = acting c.args.action in
-    c.in-ok-ask.ensures ∙ ap (with c.loop-peer.peer f) c.loop-peer.invariant ∙ sym (each_more c.loop-peer.peer (room_state c.args.self.now) f)
+    c.in_ok-ask.ensures ∙ ap (with c.loop-peer.peer f) c.loop-peer.invariant ∙ sym (each_more c.loop-peer.peer (room_state c.args.self.now) f)

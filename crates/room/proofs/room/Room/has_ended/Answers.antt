@@ -8,7 +8,7 @@ returns-then-peer c =
     let r = c.args.self.now in
     let x = c.index-peer.result.now in
     let s = stage (hosted r.host) x (vec_items r.events) in
-    ap not c.is-connected.ensures ∙ ap (λ j. j && not (connected s)) (sym c.if-peer.true)
+    ap not c.is_connected.ensures ∙ ap (λ j. j && not (connected s)) (sym c.if-peer.true)
     ∙ ap ended (on_stage (hosted r.host) (vec_items r.peers) (vec_items r.events) c.args.peer x (omega arith) c.index-peer.ensures)
 
 pub returns-else-peer : goal.returns-else-peer

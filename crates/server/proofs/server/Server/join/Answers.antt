@@ -9,7 +9,7 @@ returns c =
     let site = c.in-Some.ensures.site in
     let below = c.in-Some.ensures.below in
     let n = c.revision-revision.ensures in
-    let count = c.count-by-count.ensures ∙ ap (count_by c.in-Some.site) c.as-slice.ensures.value in
+    let count = c.count_by-count.ensures ∙ ap (count_by c.in-Some.site) c.as_slice.ensures.value in
     record {
       answer = λ t. rw (← site) (rw (n, count) refl);
       after = λ t. rw (← site) (record {

@@ -5,8 +5,8 @@ use Rattle.server.proofs.Seats.{seat_connected}
 use Rattle.server.proofs.Takes.{answer_refused, after_refused, answer_taken, after_taken, entry_is, refusal_is, text_is, sender_goes, others_told, no_reason}
 use Rattle.server.proofs.server.Server.receive.Goals as goal
 
-pub is-bad-bad-requires : goal.is-bad-bad-requires
-is-bad-bad-requires c = let l = seat_connected (vec_items c.args.self.now.sessions) _ c.requires.connected in omega arith
+pub is_bad-bad-requires : goal.is_bad-bad-requires
+is_bad-bad-requires c = let l = seat_connected (vec_items c.args.self.now.sessions) _ c.requires.connected in omega arith
 
 pub returns-in-Some : goal.returns-in-Some
 returns-in-Some c =
@@ -15,8 +15,8 @@ returns-in-Some c =
     let was = state_of c.args.self.now (text_of c.args.text.now) in
     let long = ap length c.arrive-op.ensures.history in
     let why = sym (c.in-Some.ensures ∙ refusal_is n m was _ c.arrive-op.ensures.one _ _ _ c.check-reason.ensures
-    (c.is-bad-bad.ensures ∙ ap (λ i. bad_revision (length was.history) m.revision (was.seats i)) c.site-site.ensures)
-    (c.is-full.ensures ∙ ap history_full long)) in
+    (c.is_bad-bad.ensures ∙ ap (λ i. bad_revision (length was.history) m.revision (was.seats i)) c.site-site.ensures)
+    (c.is_full.ensures ∙ ap history_full long)) in
     let end = c.end.ensures (text_of c.args.text.now) in
     record {
       answer = answer_refused n m was c.requires.connected c.in-Some.refusal why;
@@ -37,8 +37,8 @@ returns-in-None c =
     let one = c.arrive-op.ensures.one in
     let none = c.in-None.ensures in
     let why = sym (none ∙ refusal_is n m was _ one _ _ _ c.check-reason.ensures
-    (c.is-bad-bad.ensures ∙ ap (λ i. bad_revision (length was.history) m.revision (was.seats i)) c.site-site.ensures)
-    (c.is-full.ensures ∙ ap history_full (ap length history))) in
+    (c.is_bad-bad.ensures ∙ ap (λ i. bad_revision (length was.history) m.revision (was.seats i)) c.site-site.ensures)
+    (c.is_full.ensures ∙ ap history_full (ap length history))) in
     let entry = entry_is m was _ one _ (ap length history) in
     record {
       answer = answer_taken n m was c.requires.connected why c.add.result (cc (c.add.ensures.entry, entry));

@@ -6,11 +6,11 @@ use Rattle.server.proofs.server.Server.restart.Goals as goal
 
 pub returns : goal.returns
 returns c = record {
-  answer = cc (c.replay.ensures.answer, c.clear.ensures.room, c.clear.ensures.text, c.as-slice.ensures.value);
+  answer = cc (c.replay.ensures.answer, c.clear.ensures.room, c.clear.ensures.text, c.as_slice.ensures.value);
   after = record {
-    text = cc (c.replay.ensures.text, c.clear.ensures.room, c.clear.ensures.text, c.as-slice.ensures.value);
+    text = cc (c.replay.ensures.text, c.clear.ensures.room, c.clear.ensures.text, c.as_slice.ensures.value);
     history = refl;
-    seats = λ i. ap (λ (ss : List Session). seats_in ss i) (with_items_is c.args.self.now.sessions c.close-all.new.sessions (omega arith)) ∙ c.close-all.ensures i;
+    seats = λ i. ap (λ (ss : List Session). seats_in ss i) (with_items_is c.args.self.now.sessions c.close_all.new.sessions (omega arith)) ∙ c.close_all.ensures i;
   };
   room = c.replay.ensures.room ∙ c.clear.ensures.room;
 }

@@ -3,8 +3,8 @@ use native.Mathlib.Nat.{sub-zero}
 use Rattle.text.proofs.Pairs.{length-contents, contents-authors}
 use Rattle.text.proofs.document.Document.sites.Goals as goal
 
-pub slice-bounds-result-end : goal.slice-bounds-result-end
-slice-bounds-result-end c =
+pub slice_bounds-result-end : goal.slice_bounds-result-end
+slice_bounds-result-end c =
     let d = c.args.self.now in
     omega (arith, length-contents d.len (vec_items d.letters) (vec_items d.sites))
 
