@@ -1,5 +1,5 @@
 -- Each case is computed.
-use Rattle.std.proofs.Common.{◌≡◌, List, [], ◌∷◌, sym, refl, subst}
+use Rattle.std.proofs.Common.{List, [], ◌∷◌, sym, refl, subst}
 use mathlib.Core.List.Memᴰ
 use Rattle.operation.specs.Letters.{◌∈◌}
 use Rattle.operation.specs.Edits.{insert_at, delete_at}

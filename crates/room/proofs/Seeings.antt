@@ -1,5 +1,5 @@
 -- Seeing entries one after another.
-use Rattle.std.proofs.Common.{◌≡◌, ℕ, zero, suc, ◌+◌, ◌-◌, ◌<◌, ◌≤◌, Bool, true, false, cond, sym, refl, ap, ◌∙◌, arith}
+use Rattle.std.proofs.Common.{◌≡◌, ℕ, suc, ◌+◌, ◌-◌, ◌<◌, ◌≤◌, Bool, true, false, cond, sym, refl, ap, ◌∙◌, arith}
 use Rattle.room.specs.Scenes.{Scene, next_entry, takes_entry, seeing, seeing_up_to}
 
 step : (n : ℕ) (s : Scene) → seeing_up_to (suc n) s ≡ cond (takes_entry (next_entry s) s) (seeing_up_to n (seeing s)) (seeing s)

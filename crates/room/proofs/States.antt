@@ -1,14 +1,11 @@
 -- States of the server, as values.
-use Rattle.std.proofs.Common.{◌≡◌, ℕ, ◌<◌, ◌≤◌, min, true, false, cond, eqb, ltb, length, Some, Err, vec_items, Result, sym, refl, ap, ◌∙◌, subst, arith}
+use Rattle.std.proofs.Common.{◌≡◌, ℕ, ◌<◌, cond, eqb, Some, Err, Result, sym, refl, ap, ◌∙◌}
 use Rattle.std.proofs.lemmas.Bool.{lt-ltb, eq-eqb}
-use Rattle.text.specs.declared.document.Document.{Document}
 use Rattle.text.specs.Coded.{coded}
-use Rattle.text.specs.Documents.{text_of, room_of}
-use Rattle.text.proofs.Pairs.{length-contents}
 use Rattle.server.specs.Sessions.{Seat, free, ServerState}
 use Rattle.server.specs.declared.refusal.Refusal.{Refusal}
 use Rattle.server.specs.declared.refusal.Refusal.TheVariants.{OutOfMemory}
-use Rattle.server.specs.Servers.{Op, Same, Outcome, done, no_memory, with_seat, site_for, highest_free}
+use Rattle.server.specs.Servers.{Op, Same, Outcome, done, no_memory, site_for, highest_free}
 use Rattle.room.specs.Scenes.{refusal_of}
 
 -- what is the same in all parts is one state

@@ -5,7 +5,7 @@ use Rattle.operation.specs.declared.entry.Entry.{Entry}
 use Rattle.operation.specs.declared.entry.Submission.{Submission}
 use Rattle.operation.specs.Laws.{Kind, apply_all}
 use Rattle.client.specs.Replicas.{Replica, fresh, performed, submission, seen}
-use Rattle.server.specs.Sessions.{Seat, free, joined_at, heard, ServerState, taken}
+use Rattle.server.specs.Sessions.{free, joined_at, heard, ServerState, taken}
 use Rattle.room.specs.Runs.{at}
 
 -- WHAT CROSSES A LINE

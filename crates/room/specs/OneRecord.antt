@@ -1,12 +1,12 @@
 -- THE PROMISE OF ONE RECORD, over queues that lose nothing: of any number of clients, from an empty text, with typing, striking, taking and seeing
 -- in any order, with joins, ended connections and crashes of the server. Letters are of a type whose values no two typed letters share.
-use Rattle.std.specs.Prelude.{◌≡◌, ℕ, zero, suc, ◌+◌, ◌<◌, ◌≤◌, cond, ◌⊎◌, List, [], ◌∷◌, ◌++◌, length, take, drop, ◌==◌}
+use Rattle.std.specs.Prelude.{◌≡◌, ℕ, suc, ◌<◌, ◌≤◌, cond, List, [], ◌∷◌, ◌++◌, length, take, drop, ◌==◌}
 use Rattle.operation.specs.declared.entry.Submission.{Submission}
 use Rattle.operation.specs.Letters.{◌∈◌, Once, Before}
 use Rattle.operation.specs.Laws.{Kind}
 use Rattle.room.specs.declared.message.Message.{Message}
 use Rattle.room.specs.declared.message.Message.TheVariants as message
-use Rattle.room.specs.Runs.{Deed, Life, Net, Current, Connected, Step, Quiet, Calm, Path, PathBy, Reachable}
+use Rattle.room.specs.Runs.{Deed, Net, Current, Connected, Step, Quiet, Calm, Path, PathBy, Reachable}
 
 -- how many of the entries came over connection c
 unfoldable pub count_of : ℕ → List ℕ → ℕ

@@ -1,14 +1,14 @@
 -- Any number of clients and one server, over queues that lose nothing; for any kind of operations.
 -- A client is one screen. Each time that it joins it begins a life, with a connection of its own: sites are used again, connections never.
 -- So who an operation belongs to goes by connection.
-use Rattle.std.specs.Prelude.{◌≡◌, ℕ, suc, ◌+◌, ◌<◌, ◌≤◌, Bool, true, false, cond, List, [], ◌∷◌, ◌++◌, length, Some, None, Option, ◌==◌, ◌≢◌, slice_index}
+use Rattle.std.specs.Prelude.{◌≡◌, ℕ, ◌+◌, ◌<◌, true, cond, List, [], ◌∷◌, ◌++◌, length, Some, None, Option, ◌==◌, ◌≢◌, slice_index}
 use Rattle.operation.specs.declared.entry.Submission.{Submission}
-use Rattle.operation.specs.Letters.{◌∈◌, Once, Apart}
+use Rattle.operation.specs.Letters.{Once, Apart}
 use Rattle.operation.specs.Laws.{Kind}
 use Rattle.client.specs.Replicas.{Replica, fresh, performed, submission, confirmed, received}
 use Rattle.room.specs.declared.message.Message.{Message}
 use Rattle.room.specs.declared.message.Message.TheVariants as message
-use Rattle.server.specs.Sessions.{Seat, free, joined_at, heard, ServerState, taken}
+use Rattle.server.specs.Sessions.{free, joined_at, heard, ServerState, taken}
 
 -- an operation as it was performed, with the text that stood on the screen at that moment
 pub record Deed {A : Type 0} (k : Kind A) : Type 0 where

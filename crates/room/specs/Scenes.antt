@@ -4,7 +4,6 @@ use Rattle.std.specs.VecDeque.{deque_items}
 use Rattle.operation.specs.declared.operation.Operation.{Operation}
 use Rattle.operation.specs.declared.operation.Operation.TheVariants.{Insert, Delete}
 use Rattle.operation.specs.declared.entry.Entry.{Entry}
-use Rattle.operation.specs.declared.entry.Submission.{Submission}
 use Rattle.text.specs.Texts.{Letter}
 use Rattle.text.specs.Documents.{text_of}
 use Rattle.text.specs.Coded.{coded}

@@ -1,8 +1,7 @@
-use Rattle.std.proofs.Common.{◌≡◌, ℕ, List, length, Ok, Option, ap, ◌∙◌}
-use Rattle.text.specs.Coded.{coded}
+use Rattle.std.proofs.Common.{length, Ok, ap, ◌∙◌}
 use Rattle.text.specs.Documents.{text_of}
-use Rattle.server.specs.Sessions.{joined_at, ServerState}
-use Rattle.server.specs.Servers.{Op, seats, state_of, with_seat, join_answer, join_after, count_by}
+use Rattle.server.specs.Sessions.{joined_at}
+use Rattle.server.specs.Servers.{seats, state_of, with_seat, join_answer, join_after}
 use Rattle.room.specs.Scenes.{welcome}
 use Rattle.room.proofs.States.{same_is, freed}
 use Rattle.room.proofs.joining.connect.Goals as goal

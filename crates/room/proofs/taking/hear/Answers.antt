@@ -1,4 +1,4 @@
-use Rattle.std.proofs.Common.{◌≡◌, sym, ap, ◌∙◌}
+use Rattle.std.proofs.Common.{sym, ap, ◌∙◌}
 use Rattle.text.specs.Documents.{text_of}
 use Rattle.room.specs.Scenes.{refusal_of}
 use Rattle.room.proofs.States.{same_is}

@@ -1,4 +1,4 @@
-use Rattle.std.proofs.Common.{◌≡◌, subst}
+use Rattle.std.proofs.Common.{subst}
 use Rattle.text.specs.Documents.{text_of}
 use Rattle.server.specs.Servers.{state_of, Taking}
 use Rattle.room.specs.Scenes.{hosted}

@@ -1,4 +1,4 @@
-use Rattle.std.proofs.Common.{◌≡◌, true, false, [], ◌∷◌, vec_items, deque_items, sym, refl, ap, ◌∙◌}
+use Rattle.std.proofs.Common.{[], ◌∷◌, vec_items, deque_items, sym, ◌∙◌}
 use Rattle.std.proofs.lemmas.List.{nil_from_length}
 use Rattle.room.specs.declared.event.Event.TheVariants as event
 use Rattle.room.specs.Scenes.{hosted, peer_of, stage, without, is_operation, reported}

@@ -1,4 +1,4 @@
-use Rattle.std.proofs.Common.{◌≡◌, true, false, [], ◌∷◌, vec_items, deque_items, sym, refl, ap, ◌∙◌}
+use Rattle.std.proofs.Common.{false, vec_items, deque_items, sym, refl, ◌∙◌}
 use Rattle.std.proofs.lemmas.List.{nil_from_length}
 use Rattle.room.specs.Scenes.{hosted, peer_of, stage, without}
 use Rattle.room.proofs.Takings.{take_none, take_more, take_refused}

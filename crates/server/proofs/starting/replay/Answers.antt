@@ -8,7 +8,7 @@ use Rattle.server.proofs.starting.replay.Goals as goal
 
 pub returns-in_err-apply : goal.returns-in_err-apply
 returns-in_err-apply c =
-    let p = err_from_is_err_and c.from-residual.result c.from-residual.ensures.1 in
+    let p = err_from_is_err_and c.from_residual.result c.from_residual.ensures.1 in
     let os = c.args.history.now in
     let k = c.loop-op.op-index in
     let room = c.loop-op.invariant.0 in

@@ -26,7 +26,7 @@ put-requires c =
     record {
       within = omega arith;
       own = ap (λ (o : Operation ℕ). site o) c.transform.ensures ∙ site-bounded (transform c.at-old.result c.loop-i.one)
-          ∙ site_stays c.at-old.result c.loop-i.one ∙ c.at-old.ensures.own_val;
+          ∙ site_stays c.at-old.result c.loop-i.one ∙ c.at-old.ensures.own;
     }
 
 pub loop-i-init : goal.loop-i-init

@@ -2,11 +2,11 @@ use Rattle.std.proofs.Common.{◌∙◌, arith}
 use Rattle.client.proofs.Joined.{length-pendings, pushed}
 use Rattle.client.proofs.client.Client.push.Goals as goal
 
-pub invariant-of-self : goal.invariant-of-self
-invariant-of-self c =
+pub invariant_of-self : goal.invariant_of-self
+invariant_of-self c =
     let s = c.args.self.now in
     let l = length-pendings s (omega arith) (omega arith) in
-    (omega arith, (s.sized, tt))
+    record { few = omega arith; sized = s.sized }
 
 pub returns : goal.returns
 returns c =

@@ -1,4 +1,4 @@
-use Rattle.std.proofs.Common.{◌≡◌, ◌||◌, sym, ◌∙◌, ap₂}
+use Rattle.std.proofs.Common.{◌||◌, sym, ◌∙◌, ap₂}
 use Rattle.room.specs.Scenes.{room_state}
 use Rattle.room.proofs.Rooms.{any_more, any_none}
 use Rattle.room.proofs.room.Room.any_ended.Goals as goal

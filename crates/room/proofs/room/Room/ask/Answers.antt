@@ -1,4 +1,4 @@
-use Rattle.std.proofs.Common.{◌≡◌, vec_items, arith}
+use Rattle.std.proofs.Common.{vec_items, arith}
 use Rattle.room.specs.Scenes.{hosted, acting}
 use Rattle.room.proofs.Rooms.{done_with}
 use Rattle.room.proofs.room.Room.ask.Goals as goal

@@ -1,5 +1,5 @@
-use Rattle.std.proofs.Common.{◌≡◌, sym, ap, ◌∙◌}
-use Rattle.room.specs.Scenes.{RoomState, room_state, acting, with}
+use Rattle.std.proofs.Common.{sym, ap, ◌∙◌}
+use Rattle.room.specs.Scenes.{room_state, acting, with}
 use Rattle.room.proofs.Rooms.{each_more, each_none}
 use Rattle.room.proofs.room.Room.ask_all.Goals as goal
 

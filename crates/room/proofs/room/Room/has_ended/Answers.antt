@@ -1,4 +1,4 @@
-use Rattle.std.proofs.Common.{◌≡◌, not, ◌&&◌, vec_items, sym, ap, ◌∙◌, arith}
+use Rattle.std.proofs.Common.{not, ◌&&◌, vec_items, sym, ap, ◌∙◌, arith}
 use Rattle.room.specs.Scenes.{hosted, stage, connected, ended}
 use Rattle.room.proofs.Rooms.{on_stage}
 use Rattle.room.proofs.room.Room.has_ended.Goals as goal

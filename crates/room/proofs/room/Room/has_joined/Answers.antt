@@ -1,4 +1,4 @@
-use Rattle.std.proofs.Common.{◌≡◌, vec_items, ap, ◌∙◌}
+use Rattle.std.proofs.Common.{vec_items, ap}
 use Rattle.room.specs.Scenes.{PeerState}
 use Rattle.room.proofs.Rooms.{looked_up, not_there}
 use Rattle.room.proofs.room.Room.has_joined.Goals as goal

@@ -1,4 +1,4 @@
-use Rattle.std.proofs.Common.{◌≡◌, vec_items, ap, ◌∙◌}
+use Rattle.std.proofs.Common.{vec_items, ap, ◌∙◌}
 use Rattle.text.specs.Texts.{numbers}
 use Rattle.room.specs.Scenes.{PeerState}
 use Rattle.room.proofs.Rooms.{looked_up, not_there}
