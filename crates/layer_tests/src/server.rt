@@ -55,12 +55,12 @@ fn two_write_at_one_place(rt: HostRuntime) -> Result<(), Fail> {
         server.take(&mut text, at(1, insert(15, 1, 100))),
         entry(3, insert(15, 3, 100))
     );
-    assert!(rt; text.letters() == [97, 99, 98, 100]);
-    assert!(rt; text.sites() == [3, 3, 15, 15]);
+    assert!(rt; text.letters() == [97, 99, 98, 100].as_slice());
+    assert!(rt; text.sites() == [3, 3, 15, 15].as_slice());
     assert!(rt; server.revision() == 4 && server.entry(4).is_none());
     assert_eq!(rt; server.join(3), joined(14, 4, 0));
     assert!(rt; server.restart(&mut text).is_ok());
-    assert!(rt; text.letters() == [97, 99, 98, 100]);
+    assert!(rt; text.letters() == [97, 99, 98, 100].as_slice());
     assert!(rt; !server.is_connected(3) && !server.is_connected(15));
     assert_eq!(rt; server.join(3), joined(3, 4, 2));
     Ok(())

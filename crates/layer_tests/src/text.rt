@@ -1,7 +1,6 @@
 // A text of up to three letters, from empty to full and back, at both ends and beyond.
 use operation::operation::Operation;
 use std::alloc::Global;
-use std::process::Abort;
 use std::test::Fail;
 use text::document::Document;
 use text::refusal::Refusal;
@@ -19,7 +18,7 @@ fn delete(place: u32) -> Operation {
 }
 
 // a of site 1 and b of site 2.
-fn ab(rt: &impl Abort, heap: Global) -> Result<Document, Fail> {
+fn ab(heap: Global) -> Result<Document, Fail> {
     let mut text = Document::with_capacity(heap, 9)?;
     for site in 1..3u8 {
         let place = u32::from(site) - 1;
@@ -29,28 +28,25 @@ fn ab(rt: &impl Abort, heap: Global) -> Result<Document, Fail> {
             place,
             letter,
         };
-        assert!(rt; text.apply(op, 3).is_ok());
+        text.apply(op, 3)?;
     }
     Ok(text)
 }
 
 // Each is refused, and the text stays.
-fn refuses_all(
-    rt: &impl Abort,
-    text: &mut Document,
-    letters: &[u32],
-    cases: &[(Operation, Refusal)],
-) {
+fn refuses_all(text: &mut Document, letters: &[u32], cases: &[(Operation, Refusal)]) -> bool {
+    let mut all = true;
     for (op, reason) in cases {
-        assert_eq!(rt; text.check(*op, 3), Err(*reason));
-        assert_eq!(rt; text.apply(*op, 3), Err(*reason));
-        assert!(rt; text.letters() == letters);
+        all &= text.check(*op, 3) == Err(*reason);
+        all &= text.apply(*op, 3) == Err(*reason);
+        all &= text.letters() == letters;
     }
+    all
 }
 
 #[test]
 fn refuses(rt: HostRuntime) -> Result<(), Fail> {
-    let mut text = ab(&rt, rt.alloc())?;
+    let mut text = ab(rt.alloc())?;
     assert!(rt; text.len() == 2 && text.capacity() == 9);
     let cases = [
         (insert(3, 99), Refusal::BeyondText),
@@ -58,20 +54,20 @@ fn refuses(rt: HostRuntime) -> Result<(), Fail> {
         (insert(9, 1_114_112), Refusal::BadLetter),
         (delete(2), Refusal::BeyondText),
     ];
-    refuses_all(&rt, &mut text, &[97, 98], &cases);
+    assert!(rt; refuses_all(&mut text, &[97, 98], &cases));
     assert!(rt; text.apply(insert(2, 1_114_111), 3).is_ok());
     let full = [
         (insert(0, 99), Refusal::TextFull),
         (insert(4, 99), Refusal::BeyondText),
         (insert(0, 0), Refusal::BadLetter),
     ];
-    refuses_all(&rt, &mut text, &[97, 98, 1_114_111], &full);
+    assert!(rt; refuses_all(&mut text, &[97, 98, 1_114_111], &full));
     Ok(())
 }
 
 #[test]
 fn edits(rt: HostRuntime) -> Result<(), Fail> {
-    let mut text = ab(&rt, rt.alloc())?;
+    let mut text = ab(rt.alloc())?;
     let cases: [(Operation, &[u32], &[u8]); 9] = [
         (Operation::Noop { site: 7 }, &[97, 98], &[1, 2]),
         (insert(2, 99), &[97, 98, 99], &[1, 2, 7]),
@@ -103,10 +99,10 @@ fn copies_and_clears(rt: HostRuntime) -> Result<(), Fail> {
     );
     let mut copy = Document::with_capacity(rt.alloc(), 3)?;
     assert!(rt; copy.copy_from(&text).is_ok());
-    assert!(rt; copy.letters() == &[97, 98] && copy.sites() == &[7, 7]);
+    assert!(rt; copy.letters() == [97, 98].as_slice() && copy.sites() == [7, 7].as_slice());
     assert!(rt; copy.apply(insert(1, 99), usize::MAX).is_ok());
     assert_eq!(rt; text.copy_from(&copy), Err(Refusal::TextFull));
-    assert!(rt; text.letters() == &[97, 98]);
+    assert!(rt; text.letters() == [97, 98].as_slice());
     text.clear();
     assert!(rt; text.len() == 0 && text.letters().is_empty());
     assert!(rt; copy.copy_from(&text).is_ok() && copy.len() == 0);

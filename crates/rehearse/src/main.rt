@@ -4,7 +4,6 @@
 ghost use Rattle.std.specs.Prelude.{◌≡◌};
 ghost use Rattle.rehearse.specs.Asked.{asked};
 
-use anyhow::anyhow;
 use room::action::Action;
 use room::command::Command as RoomCommand;
 use room::edit::Edit;
@@ -15,6 +14,7 @@ use script::parse::parse;
 use script::show::show;
 use std::alloc::Global;
 use std::io::{BufRead, BufReader, BufWriter, Write};
+use std::process::ExitCode;
 
 // What a command asks of the room; showing asks nothing.
 fn asked_of_room(command: Command) -> Option<RoomCommand>
@@ -95,10 +95,11 @@ fn run(rt: &HostRuntime) -> anyhow::Result<bool> {
     Ok(good)
 }
 
-fn main(rt: HostRuntime) -> anyhow::Result<()> {
-    if run(&rt)? {
-        Ok(())
+fn main(rt: HostRuntime) -> anyhow::Result<ExitCode> {
+    let good = run(&rt)?;
+    Ok(if good {
+        ExitCode::SUCCESS
     } else {
-        Err(anyhow!("not every line is a command"))
-    }
+        ExitCode::FAILURE
+    })
 }
