@@ -2,10 +2,10 @@
 #![tactic(auto)]
 
 #[cfg(test)]
-mod client;
+mod client_examples;
 #[cfg(test)]
-mod operation;
+mod operation_examples;
 #[cfg(test)]
-mod server;
+mod server_examples;
 #[cfg(test)]
-mod text;
+mod text_examples;
