@@ -299,9 +299,9 @@ module _ {A : Type 0} (k : Kind A) where
   abbrev pub ends_line : ℕ → ServerNode → ServerNode
   ends_line l n = record { file = n.file; server = ending (n.lines l) n.server; connections = n.connections; lines = at l None n.lines }
 
-  unfoldable pub count_by : ℕ → List k.Op → ℕ
-  count_by i [] = 0
-  count_by i (o ∷ os) = cond (k.site o == i) (suc (count_by i os)) (count_by i os)
+  unfoldable pub site_count : ℕ → List k.Op → ℕ
+  site_count i [] = 0
+  site_count i (o ∷ os) = cond (k.site o == i) (suc (site_count i os)) (site_count i os)
 
   -- a client on line l asks for a connection and gets site i, which is free: the connection is in the file before the text leaves
   abbrev pub seating : ℕ → ServerNode → Seating
@@ -310,7 +310,7 @@ module _ {A : Type 0} (k : Kind A) where
     site = i;
     base = length n.server.history;
     text = n.server.text;
-    count = count_by i n.server.history;
+    count = site_count i n.server.history;
     last = 0;
     acknowledged = 0;
   }

@@ -1,5 +1,5 @@
 -- What a script's commands do: to the server and one peer, and to the room with all peers. Each is a function on states.
-use Rattle.std.specs.Prelude.{ℕ, zero, suc, ◌+◌, ◌-◌, ◌^◌, min, Bool, true, false, cond, not, ◌&&◌, ◌||◌, List, [], ◌∷◌, ◌++◌, map, length, Some, None, Ok, Err, vec_items, Option, Result, nat_lt, slice_index_or, slice_set}
+use Rattle.std.specs.Prelude.{ℕ, zero, suc, ◌+◌, ◌-◌, ◌^◌, min, Bool, true, false, cond, not, ◌&&◌, ◌||◌, List, [], ◌∷◌, ◌++◌, map, length, Some, None, Ok, Err, vec_items, Option, Result, is_none, nat_lt, slice_index_or, slice_set}
 use Rattle.std.specs.VecDeque.{deque_items}
 use Rattle.operation.specs.declared.operation.Operation.{Operation}
 use Rattle.operation.specs.declared.operation.Operation.TheVariants.{Insert, Delete}
@@ -15,7 +15,7 @@ use Rattle.server.specs.declared.refusal.Refusal.{Refusal as ServerRefusal}
 use Rattle.server.specs.declared.joined.Joined.{Joined}
 use Rattle.server.specs.Refusals.{number_of as server_number}
 use Rattle.server.specs.Sessions.{free, joined_at, ServerState}
-use Rattle.server.specs.Servers.{state_of, with_seat, take_answer, take_after, hear_answer, hear_after, count_by, entry_at, restarted}
+use Rattle.server.specs.Servers.{state_of, with_seat, take_answer, take_after, hear_answer, hear_after, site_count, entry_at, restarted}
 use Rattle.room.specs.declared.message.Message.{Message}
 use Rattle.room.specs.declared.message.Message.TheVariants as message
 use Rattle.room.specs.declared.action.Action.{Action}
@@ -78,14 +78,14 @@ reported es s = record { server = s.server; peer = s.peer; events = s.events ++ 
 -- JOINING, for the first time or anew: a connection that the peer had ends, the text is the server's, nothing is pending and nothing under way.
 -- What it performed and the history does not have is lost; this is reported when it joins anew.
 abbrev pub loss_of : Scene → List Event
-loss_of s = cond s.peer.joined (event.Lost s.peer.site (s.peer.performed - count_by s.peer.site s.server.history) ∷ []) []
+loss_of s = cond s.peer.joined (event.Lost s.peer.site (s.peer.performed - site_count s.peer.site s.server.history) ∷ []) []
 
 abbrev pub reconnected : ℕ → ServerState coded → ServerState coded
 reconnected i v = with_seat i (joined_at (length v.history)) (with_seat i free v)
 
 -- what a client at site i is told when it joins
 abbrev pub welcome : ℕ → ServerState coded → Joined
-welcome i v = record { site = i; revision = length v.history; count = count_by i v.history }
+welcome i v = record { site = i; revision = length v.history; count = site_count i v.history }
 
 -- a peer at site i that has just joined
 abbrev pub arrived : ℕ → List Letter → ℕ → ℕ → PeerState
@@ -94,7 +94,7 @@ arrived i t n count = record { joined = true; site = i; replica = fresh coded t 
 abbrev pub joining : Scene → Scene
 joining s = record {
   server = reconnected s.peer.site s.server;
-  peer = arrived s.peer.site s.server.text (length s.server.history) (count_by s.peer.site s.server.history);
+  peer = arrived s.peer.site s.server.text (length s.server.history) (site_count s.peer.site s.server.history);
   events = s.events ++ loss_of s;
 }
 
@@ -163,10 +163,6 @@ abbrev pub seeing : Scene → Scene
 seeing s = seeing_entry (next_entry s) s
 
 -- is there one, and is it not refused?
-abbrev pub is_none : Option ClientRefusal → Bool
-is_none None = true
-is_none (Some r) = false
-
 abbrev pub takes_entry : Option (Entry Op) → Scene → Bool
 takes_entry None s = false
 takes_entry (Some e) s = is_none (see_refusal 65792 s.peer.site e s.peer.replica)

@@ -1,9 +1,9 @@
 // A peer sees entries of the history.
-ghost use Rattle.std.specs.Prelude.{◌≡◌, IfOk, OnOk};
+ghost use Rattle.std.specs.Prelude.{◌≡◌, IfOk, OnOk, is_none};
 ghost use Rattle.text.specs.Coded.{coded};
 ghost use Rattle.client.specs.Clients.{see_refusal};
 ghost use Rattle.server.specs.Sessions.{ServerState};
-ghost use Rattle.room.specs.Scenes.{hosted, peer_of, is_none, stage, next_entry, takes_entry, seen, seeing, seeing_all};
+ghost use Rattle.room.specs.Scenes.{hosted, peer_of, stage, next_entry, takes_entry, seen, seeing, seeing_all};
 
 use crate::event::Event;
 use crate::host::Host;

@@ -5,18 +5,18 @@ use Rattle.std.proofs.lemmas.Bool.{eq-eqb, ne_eqb, cond-true, cond-false}
 use Rattle.operation.specs.Edits.{site}
 use Rattle.server.specs.Sessions.{Seat}
 use Rattle.server.specs.Seats.{Op}
-use Rattle.server.specs.Servers.{count_by, highest_free}
+use Rattle.server.specs.Servers.{site_count, highest_free}
 
 module _ (i : ℕ) (os : List Op) (k : ℕ) (d : Op) (h : k < length os) where
-  next : count_by i (drop k os) ≡ cond (eqb (site (get_or os k d)) i) (suc (count_by i (drop (k + 1) os))) (count_by i (drop (k + 1) os))
-  unfolding count_by
-  next = ap (count_by i) (drop_more os k d h)
+  next : site_count i (drop k os) ≡ cond (eqb (site (get_or os k d)) i) (suc (site_count i (drop (k + 1) os))) (site_count i (drop (k + 1) os))
+  unfolding site_count
+  next = ap (site_count i) (drop_more os k d h)
 
-  pub count_more : site (get_or os k d) ≡ i → count_by i (drop k os) ≡ count_by i (drop (k + 1) os) + 1
-  count_more e = next ∙ cond-true _ _ (count_by i (drop (k + 1) os)) (eq-eqb _ i e) ∙ omega arith
+  pub count_more : site (get_or os k d) ≡ i → site_count i (drop k os) ≡ site_count i (drop (k + 1) os) + 1
+  count_more e = next ∙ cond-true _ _ (site_count i (drop (k + 1) os)) (eq-eqb _ i e) ∙ omega arith
 
-  pub count_other : (site (get_or os k d) ≡ i → ⊥) → count_by i (drop k os) ≡ count_by i (drop (k + 1) os)
-  count_other e = next ∙ cond-false _ (suc (count_by i (drop (k + 1) os))) _ (ne_eqb _ i e)
+  pub count_other : (site (get_or os k d) ≡ i → ⊥) → site_count i (drop k os) ≡ site_count i (drop (k + 1) os)
+  count_other e = next ∙ cond-false _ (suc (site_count i (drop (k + 1) os))) _ (ne_eqb _ i e)
 
 module _ (f : ℕ → Seat Op) where
   step : (n : ℕ) → 0 < n → highest_free n f ≡ cond (f (n - 1)).connected (highest_free (n - 1) f) (Some (n - 1))

@@ -107,13 +107,13 @@ abbrev pub site_for : ℕ → (ℕ → Seat Op) → Option ℕ
 site_for w f = cond (nat_lt w 16) (cond (f w).connected (highest_free 16 f) (Some w)) (highest_free 16 f)
 
 -- how many of the operations are of site i
-unfoldable pub count_by : ℕ → List Op → ℕ
-count_by i [] = 0
-count_by i (o ∷ os) = cond (site o == i) (suc (count_by i os)) (count_by i os)
+unfoldable pub site_count : ℕ → List Op → ℕ
+site_count i [] = 0
+site_count i (o ∷ os) = cond (site o == i) (suc (site_count i os)) (site_count i os)
 
 abbrev pub join_answer : Option ℕ → ServerState coded → Result Joined Refusal
 join_answer None v = Err SitesInUse
-join_answer (Some i) v = Ok (record { site = i; revision = length v.history; count = count_by i v.history })
+join_answer (Some i) v = Ok (record { site = i; revision = length v.history; count = site_count i v.history })
 
 abbrev pub join_after : Option ℕ → ServerState coded → ServerState coded
 join_after None v = v

@@ -2,7 +2,7 @@
 ghost use Rattle.std.specs.Prelude.{◌≡◌, ℕ, ◌^◌, ◌<◌, ◌≤◌, length, IfSome, IfOk, if◌then◌else◌, vec_len, nat_eq};
 ghost use Rattle.server.specs.Sessions.{free, told};
 ghost use Rattle.server.specs.Seats.{seats_in, bounded};
-ghost use Rattle.server.specs.Servers.{highest_free, count_by};
+ghost use Rattle.server.specs.Servers.{highest_free, site_count};
 
 use crate::server::SITES;
 use crate::session::Session;
@@ -61,7 +61,7 @@ pub(crate) fn highest_free(sessions: &[Session]) -> Option<u8>
 // How many of the operations are of the site.
 pub(crate) fn count_by(history: &[Operation], site: u8) -> u32
     requires { length history.now < 2 ^ 32 }
-    ensures { result ≡ count_by site history.now }
+    ensures { result ≡ site_count site history.now }
 {
     let mut count = 0;
     for op in history {

@@ -1,7 +1,7 @@
 use Rattle.std.proofs.Common.{sym, ap, ◌∙◌, arith}
 use Rattle.std.proofs.lemmas.List.{drop_all}
 use Rattle.operation.specs.declared.operation.Operation.TheVariants.{Noop}
-use Rattle.server.specs.Servers.{count_by}
+use Rattle.server.specs.Servers.{site_count}
 use Rattle.server.proofs.Counts.{count_more, count_other}
 use Rattle.server.proofs.seating.count_by.Goals as goal
 use Rattle.server.proofs.seating.count_by.Goals.{then-site, else-site}
@@ -18,5 +18,5 @@ loop-op-preserved c =
     ]
 
 pub returns : goal.returns
-unfolding count_by
-returns c = let e = ap (count_by c.args.site) (drop_all c.loop-op.op-index c.args.history.now (omega arith)) in omega arith
+unfolding site_count
+returns c = let e = ap (site_count c.args.site) (drop_all c.loop-op.op-index c.args.history.now (omega arith)) in omega arith

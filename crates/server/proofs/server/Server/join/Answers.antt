@@ -1,6 +1,6 @@
 use Rattle.std.proofs.Common.{length, vec_items, refl, ap, ◌∙◌, arith}
 use Rattle.server.specs.Sessions.{joined_at}
-use Rattle.server.specs.Servers.{count_by}
+use Rattle.server.specs.Servers.{site_count}
 use Rattle.server.proofs.Seats.{seat_set}
 use Rattle.server.proofs.server.Server.join.Goals as goal
 
@@ -9,7 +9,7 @@ returns c =
     let site = c.in-Some.ensures.site in
     let below = c.in-Some.ensures.below in
     let n = c.revision-revision.ensures in
-    let count = c.count_by-count.ensures ∙ ap (count_by c.in-Some.site) c.as_slice.ensures.value in
+    let count = c.count_by-count.ensures ∙ ap (site_count c.in-Some.site) c.as_slice.ensures.value in
     record {
       answer = λ t. rw (← site) (rw (n, count) refl);
       after = λ t. rw (← site) (record {
