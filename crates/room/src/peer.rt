@@ -7,14 +7,14 @@ use client::client::Client;
 use std::collections::VecDeque;
 use text::document::Document;
 
-// `performed` counts the operations of the site that the peer knows of: those that the history had when it joined, and its own since.
 #[derive(Drop)]
 pub struct Peer {
-    pub(crate) joined: bool,
     pub(crate) client: Client,
     pub(crate) text: Document,
     pub(crate) queue: VecDeque<Message>,
-    pub(crate) performed: u64,
+    // How many operations of its site the peer knows of: those that the history had when it joined, and its own since.
+    // None if it has not joined.
+    pub(crate) performed: Option<u64>,
     ghost space: { room_of text ≡ 65792 },
     ghost known: { client.site < 16 },
 }
