@@ -65,6 +65,7 @@ impl Model for Document {
 
 impl Document {
     // An empty text with room for `capacity` letters.
+    #[tactic(auto, unfolding(crate::specs::Texts::paired))]
     pub fn with_capacity(heap: Global, capacity: usize) -> Result<Document, AllocError>
         ensures { IfOk result (λ d. d ≡ record { letters = []; room = capacity }) }
     {
@@ -82,6 +83,7 @@ impl Document {
         self.room
     }
 
+    #[tactic(auto, using(crate::proofs::Views::sizes))]
     pub fn len(&self) -> usize
         ensures { result ≡ length self.now.letters }
     {
@@ -145,6 +147,7 @@ impl Document {
         Ok(())
     }
 
+    #[tactic(auto, unfolding(crate::specs::Texts::paired))]
     pub fn clear(&mut self)
         ensures { self.new ≡ with_letters [] self.old }
     {
