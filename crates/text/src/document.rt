@@ -43,7 +43,8 @@ fn check(op: Operation, len: usize, room: usize) -> Result<(), Refusal>
     }
 }
 
-// The letters, and beside each the site that typed it: the letters alone are lent to whoever shows the text.
+// The letters and the site of each are two vectors, since the letters are lent as a slice of 32-bit numbers. Both have memory for
+// `room` letters, so that an insertion needs none.
 #[derive(Drop)]
 pub struct Document {
     letters: Vec<u32>,
@@ -169,8 +170,8 @@ impl Document {
         self.sites.as_slice()
     }
 
-    // Takes over the other's text, or refuses it where there is no room, and changes nothing. What the other has room for is taken
-    // where there is as much.
+    // Takes over the other's text, or refuses it where there is no room, and changes nothing. Where there is as much room as in the
+    // other it is never refused.
     pub fn copy_from(&mut self, other: &Document) -> Result<(), Refusal>
         ensures answer { refused result ≡ copy_refusal self.old.room other.now.letters }
         ensures text { self.new ≡ with_letters (copied self.old.room other.now.letters self.old.letters) self.old }
