@@ -46,12 +46,7 @@ impl Server {
     pub(crate) fn highest_free(&self) -> Option<u8>
         ensures { result ≡ highest_free 16 (seats self.now) }
     {
-        for site in (0..SITES as u8).rev() {
-            if !self.is_connected(site) {
-                return Some(site);
-            }
-        }
-        None
+        (0..SITES as u8).rev().find(|&site| !self.is_connected(site))
     }
 
     // How many operations of the history are of the site.

@@ -1,7 +1,7 @@
 use Rattle.std.proofs.Common.{refl, vec_items, ap, ◌∙◌, arith}
 use Rattle.server.specs.Sessions.{joined_at}
 use Rattle.server.specs.Servers.{seats, state_of, join_after}
-use Rattle.server.proofs.Counts.{chosen_below}
+use Rattle.server.proofs.FreeSites.{chosen_below}
 use Rattle.server.proofs.Seats.{seat_written}
 use Rattle.server.proofs.server.Server.join.Goals as goal
 
