@@ -1,7 +1,6 @@
 -- The client's calls: what they answer and what they leave. Limits of the code are here.
-use Rattle.std.specs.Prelude.{ℕ, ◌%◌, min, Bool, cond, ◌&&◌, List, [], ◌∷◌, length, take, Some, None, Ok, Err, Option, Result, ◌==◌, nat_le, nat_lt}
+use Rattle.std.specs.Prelude.{ℕ, ◌%◌, min, Bool, cond, ◌&&◌, List, length, Some, None, Ok, Err, Option, Result, ◌==◌, nat_le, nat_lt}
 use Rattle.operation.specs.declared.operation.Operation.{Operation}
-use Rattle.operation.specs.declared.operation.Operation.TheVariants.{Noop, Insert, Delete}
 use Rattle.operation.specs.declared.entry.Entry.{Entry}
 use Rattle.operation.specs.declared.entry.Submission.{Submission}
 use Rattle.operation.specs.Edits.{site}
@@ -9,32 +8,15 @@ use Rattle.text.specs.declared.refusal.Refusal.{Refusal as TextRefusal}
 use Rattle.text.specs.declared.refusal.Refusal.TheVariants as text
 use Rattle.text.specs.Texts.{Letter, refusal}
 use Rattle.text.specs.Coded.{coded}
-use Rattle.client.specs.declared.kind.Kind.{Kind}
-use Rattle.client.specs.declared.kind.Kind.TheVariants as kind
 use Rattle.client.specs.declared.refusal.Refusal.{Refusal}
 use Rattle.client.specs.declared.refusal.Refusal.TheVariants.{BadLetter, BeyondText, PendingFull, NotNext, TextFull}
 use Rattle.client.specs.declared.client.Client.{Client}
+use Rattle.client.specs.Pendings.{pendings}
 use Rattle.client.specs.Replicas.{Replica, performed, submission, passed, seen}
-
--- THE PENDING OPERATIONS, which are kept in three arrays
--- the operation of site s that one place of the arrays stands for
-abbrev pub operation : ℕ → Kind → ℕ → ℕ → Operation ℕ
-operation s kind.Noop p x = Noop s
-operation s kind.Insert p x = Insert s p x
-operation s kind.Delete p x = Delete s p
-
-unfoldable pub joined : ℕ → List Kind → List ℕ → List ℕ → List (Operation ℕ)
-joined s [] ps xs = []
-joined s (k ∷ ks) [] xs = []
-joined s (k ∷ ks) (p ∷ ps) [] = []
-joined s (k ∷ ks) (p ∷ ps) (x ∷ xs) = operation s k p x ∷ joined s ks ps xs
-
-abbrev pub pendings : Client → List (Operation ℕ)
-pendings c = take c.count (joined c.site c.kinds c.places c.letters)
 
 -- a client with the text that is lent beside it
 abbrev pub replica : Client → List Letter → Replica coded
-replica c t = record { text = t; pending = pendings c; revision = c.revision }
+replica c t = record { text = t; pending = pendings c.pending; revision = c.revision }
 
 -- REFUSALS
 -- a text's reason is the client's

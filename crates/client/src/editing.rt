@@ -3,11 +3,12 @@ ghost use Rattle.std.specs.Prelude.{◌≡◌, true, [], length, Some};
 ghost use Rattle.operation.specs.Edits.{site as site_of};
 ghost use Rattle.text.specs.Texts.{refused};
 ghost use Rattle.text.specs.Documents.{text_of, room_of};
-ghost use Rattle.client.specs.Clients.{pendings, replica, lowest, edited, edit_answer};
+ghost use Rattle.client.specs.Pendings.{pendings};
+ghost use Rattle.client.specs.Clients.{replica, lowest, edited, edit_answer};
 
 use crate::client::{Client, PENDING_CAPACITY};
-use crate::kind::Kind;
-use crate::refusal::{Refusal, reason_of};
+use crate::pending::Pending;
+use crate::refusal::Refusal;
 use operation::entry::Submission;
 use operation::operation::Operation;
 use text::document::{Document, RECORD_CAPACITY};
@@ -28,24 +29,20 @@ fn when_full(answer: Result<(), TextRefusal>) -> Refusal
 impl Client {
     // A client that has seen the first `revision` entries of the history and has typed nothing.
     pub fn new(site: u8, revision: u32) -> Client
-        ensures site { result.site ≡ site }
+        ensures site { result.pending.site ≡ site }
         ensures revision { result.revision ≡ revision }
-        ensures pending { pendings result ≡ [] }
+        ensures pending { pendings result.pending ≡ [] }
     {
         Client {
-            site,
             revision,
-            kinds: [Kind::Noop; 256],
-            places: [0; 256],
-            letters: [0; 256],
-            count: 0,
+            pending: Pending::new(site),
         }
     }
 
     pub fn site(&self) -> u8
-        ensures { result ≡ self.now.site }
+        ensures { result ≡ self.now.pending.site }
     {
-        self.site
+        self.pending.site()
     }
 
     // How many entries of the history it has seen.
@@ -56,9 +53,9 @@ impl Client {
     }
 
     pub fn pending_len(&self) -> usize
-        ensures { result ≡ length (pendings self.now) }
+        ensures { result ≡ length (pendings self.now.pending) }
     {
-        self.count
+        self.pending.len()
     }
 
     // Puts a letter in before the one at `place`, or at the end. The answer is what to send.
@@ -68,12 +65,12 @@ impl Client {
         place: u32,
         letter: u32,
     ) -> Result<Submission, Refusal>
-        ensures answer { result ≡ edit_answer (room_of text.old) (Operation.Insert self.old.site place letter) (replica self.old (text_of text.old)) }
-        ensures after { replica self.new (text_of text.new) ≡ edited (room_of text.old) (Operation.Insert self.old.site place letter) (replica self.old (text_of text.old)) }
-        ensures site { self.new.site ≡ self.old.site }
+        ensures answer { result ≡ edit_answer (room_of text.old) (Operation.Insert self.old.pending.site place letter) (replica self.old (text_of text.old)) }
+        ensures after { replica self.new (text_of text.new) ≡ edited (room_of text.old) (Operation.Insert self.old.pending.site place letter) (replica self.old (text_of text.old)) }
+        ensures site { self.new.pending.site ≡ self.old.pending.site }
         ensures room { room_of text.new ≡ room_of text.old }
     {
-        let site = self.site;
+        let site = self.site();
         self.perform(
             text,
             Operation::Insert {
@@ -86,35 +83,31 @@ impl Client {
 
     // Takes the letter at `place` away. The answer is what to send.
     pub fn delete(&mut self, text: &mut Document, place: u32) -> Result<Submission, Refusal>
-        ensures answer { result ≡ edit_answer (room_of text.old) (Operation.Delete self.old.site place) (replica self.old (text_of text.old)) }
-        ensures after { replica self.new (text_of text.new) ≡ edited (room_of text.old) (Operation.Delete self.old.site place) (replica self.old (text_of text.old)) }
-        ensures site { self.new.site ≡ self.old.site }
+        ensures answer { result ≡ edit_answer (room_of text.old) (Operation.Delete self.old.pending.site place) (replica self.old (text_of text.old)) }
+        ensures after { replica self.new (text_of text.new) ≡ edited (room_of text.old) (Operation.Delete self.old.pending.site place) (replica self.old (text_of text.old)) }
+        ensures site { self.new.pending.site ≡ self.old.pending.site }
         ensures room { room_of text.new ≡ room_of text.old }
     {
-        let site = self.site;
+        let site = self.site();
         self.perform(text, Operation::Delete { site, place })
     }
 
     // Does an operation of its own, or refuses it and changes nothing.
     fn perform(&mut self, text: &mut Document, op: Operation) -> Result<Submission, Refusal>
-        requires { site_of op ≡ self.old.site }
+        requires { site_of op ≡ self.old.pending.site }
         ensures answer { result ≡ edit_answer (room_of text.old) op (replica self.old (text_of text.old)) }
         ensures after { replica self.new (text_of text.new) ≡ edited (room_of text.old) op (replica self.old (text_of text.old)) }
-        ensures site { self.new.site ≡ self.old.site }
+        ensures site { self.new.pending.site ≡ self.old.pending.site }
         ensures room { room_of text.new ≡ room_of text.old }
     {
         if self.pending_len() >= PENDING_CAPACITY {
             return Err(when_full(text.check(op, RECORD_CAPACITY)));
         }
-        match text.apply(op, RECORD_CAPACITY) {
-            Ok(()) => {
-                self.push(op);
-                Ok(Submission {
-                    revision: self.revision,
-                    op,
-                })
-            }
-            Err(e) => Err(reason_of(e)),
-        }
+        text.apply(op, RECORD_CAPACITY)?;
+        self.pending.push(op.into());
+        Ok(Submission {
+            revision: self.revision,
+            op,
+        })
     }
 }
