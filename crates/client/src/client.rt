@@ -31,8 +31,8 @@ impl Client {
         }
     }
 
-    // Begins anew, with a copy of that text, or refuses it where there is no room, and changes nothing. What the text has room for is
-    // taken where there is as much.
+    // Begins anew, with a copy of that text, or refuses it where there is no room, and changes nothing. Where there is as much room as
+    // in that text it is never refused.
     pub fn begin(&mut self, site: u8, revision: u32, text: &Document) -> Result<(), TextRefusal>
         ensures answer { refused result ≡ copy_refusal (client_of self.old).room text.now.letters }
         ensures after { client_of self.new ≡ begun site revision text.now.letters (client_of self.old) }

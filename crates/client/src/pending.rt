@@ -62,6 +62,7 @@ impl From<Operation> for Slot {
 }
 
 // The list is the first `count` places of the three arrays.
+// That the site stays is a clause of each method: with a model instead, the struct could not be `Copy`, since a list does not give back what lies behind it.
 #[derive(Clone, Copy)]
 pub(crate) struct Pending {
     site: u8,
