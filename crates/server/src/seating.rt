@@ -46,7 +46,9 @@ impl Server {
     pub(crate) fn highest_free(&self) -> Option<u8>
         ensures { result ≡ highest_free 16 (seats self.now) }
     {
-        (0..SITES as u8).rev().find(|&site| !self.is_connected(site))
+        (0..SITES as u8)
+            .rev()
+            .find(|&site| !self.is_connected(site))
     }
 
     // How many operations of the history are of the site.
