@@ -7,8 +7,8 @@ use Rattle.operation.specs.declared.operation.Operation.{Operation}
 use Rattle.operation.specs.declared.operation.Operation.TheVariants.{Noop}
 use Rattle.client.specs.declared.kind.Kind.{Kind}
 use Rattle.client.specs.declared.kind.Kind.TheVariants as kind
-use Rattle.client.specs.declared.client.Client.{Client}
-use Rattle.client.specs.Clients.{operation, joined, pendings}
+use Rattle.client.specs.declared.pending.Pending.{Pending}
+use Rattle.client.specs.Pendings.{operation, joined, pendings}
 
 length-joined : (s : ℕ) (ks : List Kind) (ps xs : List ℕ) → length ps ≡ length ks → length xs ≡ length ks → length (joined s ks ps xs) ≡ length ks
 unfolding joined
@@ -72,19 +72,19 @@ moved_down n l m h k e =
     ap (take (n - 1)) e ∙ ap (λ j. take j (paste l 0 (drop 1 l) (n - 1))) (sym z) ∙ take-paste l 0 (drop 1 l) (n - 1) (omega arith) (omega arith)
     ∙ sym (drop-take 1 (n - 1) l) ∙ ap (λ j. drop 1 (take j l)) o
 
-module _ (c : Client) where
+module _ (c : Pending) where
   abbrev all : List (Operation ℕ)
   all = joined c.site c.kinds c.places c.letters
 
-  pub length-pendings : length c.places ≡ 256 → length c.letters ≡ 256 → length (pendings c) ≡ c.count
-  length-pendings p x =
-      let e = length-joined c.site c.kinds c.places c.letters (omega arith) (omega arith) in
-      length-take-le c.count all (omega arith)
+  length-all : length all ≡ 256
+  length-all = length-joined c.site c.kinds c.places c.letters (omega arith) (omega arith) ∙ c.sized.0
+
+  pub length-pendings : length (pendings c) ≡ c.count
+  length-pendings = let e = length-all in length-take-le c.count all (omega arith)
 
   -- one operation is read
-  pub read : (i : ℕ) → length c.places ≡ 256 → length c.letters ≡ 256 → i < c.count →
-      operation c.site (get_or c.kinds i kind.Noop) (get_or c.places i 0) (get_or c.letters i 0) ≡ get_or (pendings c) i (Noop 0)
-  read i p x h =
+  pub read : (i : ℕ) → i < c.count → operation c.site (get_or c.kinds i kind.Noop) (get_or c.places i 0) (get_or c.letters i 0) ≡ get_or (pendings c) i (Noop 0)
+  read i h =
       sym (get_or-take c.count all i (Noop 0) h ∙ get_or-joined c.site c.kinds c.places c.letters i (omega arith) (omega arith) (omega arith))
 
   -- one is written
@@ -94,11 +94,8 @@ module _ (c : Client) where
       ap (take c.count) (set-joined c.site c.kinds c.places c.letters i k p x) ∙ take-set-lt c.count all i (operation c.site k p x) h
 
   -- one more, which is written
-  pub pushed : (o : Operation ℕ) → length c.places ≡ 256 → length c.letters ≡ 256 → c.count < 256 →
-      set (take (c.count + 1) all) c.count o ≡ pendings c ++ o ∷ []
-  pushed o p x h =
-      let e = length-joined c.site c.kinds c.places c.letters (omega arith) (omega arith) in
-      sym (take-set-lt (c.count + 1) all c.count o (omega arith)) ∙ take_more_set all c.count o (omega arith)
+  pub pushed : (o : Operation ℕ) → c.count < 256 → set (take (c.count + 1) all) c.count o ≡ pendings c ++ o ∷ []
+  pushed o h = let e = length-all in sym (take-set-lt (c.count + 1) all c.count o (omega arith)) ∙ take_more_set all c.count o (omega arith)
 
   -- the first is gone
   pub shifted : (ks : List Kind) (ps xs : List ℕ) → take (c.count - 1) ks ≡ drop 1 (take c.count c.kinds) →
@@ -111,3 +108,6 @@ module _ (c : Client) where
       take-joined (c.count - 1) c.site ks ps xs ∙ ap (λ l. joined c.site l (take (c.count - 1) ps) (take (c.count - 1) xs)) k
       ∙ ap (λ l. joined c.site (drop 1 ks') l (take (c.count - 1) xs)) p ∙ ap (joined c.site (drop 1 ks') (drop 1 ps')) x
       ∙ drop-joined c.site ks' ps' xs' ∙ ap (drop 1) (sym (take-joined c.count c.site c.kinds c.places c.letters))
+
+-- what a proof about one place of the list needs
+pub ruleset lengths = (length-pendings)

@@ -1,40 +1,38 @@
 -- The client's calls: what they answer and what they leave. Limits of the code are here.
-use Rattle.std.specs.Prelude.{ℕ, ◌%◌, min, Bool, cond, ◌&&◌, List, [], ◌∷◌, length, take, Some, None, Ok, Err, Option, Result, ◌==◌, nat_le, nat_lt}
+use Rattle.std.specs.Prelude.{ℕ, ◌%◌, min, Bool, cond, ◌&&◌, List, length, Some, None, Ok, Err, Option, Result, ◌==◌, nat_le, nat_lt}
 use Rattle.operation.specs.declared.operation.Operation.{Operation}
-use Rattle.operation.specs.declared.operation.Operation.TheVariants.{Noop, Insert, Delete}
 use Rattle.operation.specs.declared.entry.Entry.{Entry}
 use Rattle.operation.specs.declared.entry.Submission.{Submission}
 use Rattle.operation.specs.Edits.{site}
 use Rattle.text.specs.declared.refusal.Refusal.{Refusal as TextRefusal}
 use Rattle.text.specs.declared.refusal.Refusal.TheVariants as text
 use Rattle.text.specs.Texts.{Letter, refusal}
+use Rattle.text.specs.Documents.{TextState, copy_refusal}
 use Rattle.text.specs.Coded.{coded}
-use Rattle.client.specs.declared.kind.Kind.{Kind}
-use Rattle.client.specs.declared.kind.Kind.TheVariants as kind
 use Rattle.client.specs.declared.refusal.Refusal.{Refusal}
 use Rattle.client.specs.declared.refusal.Refusal.TheVariants.{BadLetter, BeyondText, PendingFull, NotNext, TextFull}
 use Rattle.client.specs.declared.client.Client.{Client}
-use Rattle.client.specs.Replicas.{Replica, performed, submission, passed, seen}
+use Rattle.client.specs.Pendings.{pendings}
+use Rattle.client.specs.Replicas.{Replica, fresh, performed, submission, passed, seen}
 
--- THE PENDING OPERATIONS, which are kept in three arrays
--- the operation of site s that one place of the arrays stands for
-abbrev pub operation : ℕ → Kind → ℕ → ℕ → Operation ℕ
-operation s kind.Noop p x = Noop s
-operation s kind.Insert p x = Insert s p x
-operation s kind.Delete p x = Delete s p
+-- A CLIENT: its site, how many letters its text has room for, and the rest
+pub record ClientState : Type 0 where
+  pub site : ℕ
+  pub room : ℕ
+  pub replica : Replica coded
 
-unfoldable pub joined : ℕ → List Kind → List ℕ → List ℕ → List (Operation ℕ)
-joined s [] ps xs = []
-joined s (k ∷ ks) [] xs = []
-joined s (k ∷ ks) (p ∷ ps) [] = []
-joined s (k ∷ ks) (p ∷ ps) (x ∷ xs) = operation s k p x ∷ joined s ks ps xs
+abbrev pub replica : Client → Replica coded
+replica c = record { text = c.text.letters; pending = pendings c.pending; revision = c.revision }
 
-abbrev pub pendings : Client → List (Operation ℕ)
-pendings c = take c.count (joined c.site c.kinds c.places c.letters)
+abbrev pub client_of : Client → ClientState
+client_of c = record { site = c.pending.site; room = c.text.room; replica = replica c }
 
--- a client with the text that is lent beside it
-abbrev pub replica : Client → List Letter → Replica coded
-replica c t = record { text = t; pending = pendings c; revision = c.revision }
+abbrev pub text_of : ClientState → TextState
+text_of c = record { letters = c.replica.text; room = c.room }
+
+-- the site and the room stay
+abbrev pub with_replica : Replica coded → ClientState → ClientState
+with_replica r c = record { site = c.site; room = c.room; replica = r }
 
 -- REFUSALS
 -- a text's reason is the client's
@@ -54,13 +52,23 @@ lowest (Some text.BadLetter) full = Some BadLetter
 lowest (Some text.BeyondText) full = Some BeyondText
 lowest (Some text.TextFull) full = cond full (Some PendingFull) (Some TextFull)
 
-abbrev pub unless : {A : Type 0} → Option Refusal → A → A → A
+-- what comes of a call: what was, if that is refused
+abbrev pub unless : {E A : Type 0} → Option E → A → A → A
 unless None x y = x
 unless (Some r) x y = y
 
 abbrev pub answered : {A : Type 0} → Option Refusal → A → Result A Refusal
 answered None x = Ok x
 answered (Some r) x = Err r
+
+-- BEGINNING
+-- a client at site i with this text, that has seen n entries and typed nothing
+abbrev pub newcomer : ℕ → ℕ → TextState → ClientState
+newcomer i n t = record { site = i; room = t.room; replica = fresh coded t.letters n }
+
+-- one that begins anew with a copy of that text, if it has room
+abbrev pub begun : ℕ → ℕ → List Letter → ClientState → ClientState
+begun i n t c = unless (copy_refusal c.room t) (newcomer i n (record { letters = t; room = c.room })) c
 
 -- TYPING AND STRIKING, in a text with room for n letters
 abbrev pub edit_refusal : ℕ → Operation ℕ → Replica coded → Option Refusal
@@ -71,6 +79,12 @@ edited n o c = unless (edit_refusal n o c) (performed coded o c) c
 
 abbrev pub edit_answer : ℕ → Operation ℕ → Replica coded → Result (Submission (Operation ℕ)) Refusal
 edit_answer n o c = answered (edit_refusal n o c) (submission coded o c)
+
+abbrev pub after_edit : Operation ℕ → ClientState → ClientState
+after_edit o c = with_replica (edited c.room o c.replica) c
+
+abbrev pub answer_to : Operation ℕ → ClientState → Result (Submission (Operation ℕ)) Refusal
+answer_to o c = edit_answer c.room o c.replica
 
 -- SEEING
 -- the entry is the next, and a place that a history can have
@@ -83,6 +97,12 @@ see_refusal n i e c = cond (is_next e c) (cond (site e.op == i) None (reasons (r
 
 abbrev pub after_seeing : ℕ → ℕ → Entry (Operation ℕ) → Replica coded → Replica coded
 after_seeing n i e c = unless (see_refusal n i e c) (seen coded i e.op c) c
+
+abbrev pub entry_refusal : Entry (Operation ℕ) → ClientState → Option Refusal
+entry_refusal e c = see_refusal c.room c.site e c.replica
+
+abbrev pub after_entry : Entry (Operation ℕ) → ClientState → ClientState
+after_entry e c = with_replica (after_seeing c.room c.site e c.replica) c
 
 -- the client that is handed back, and the reason if the entry was refused
 abbrev pub handed_back : Result Client (Client × Refusal) → Client

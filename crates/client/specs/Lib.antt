@@ -1,3 +1,4 @@
 pub mod Replicas
 pub mod Refusals
+pub mod Pendings
 pub mod Clients

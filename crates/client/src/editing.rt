@@ -1,16 +1,14 @@
 // A client's own edits: done to its text at once, and pending until they come back.
-ghost use Rattle.std.specs.Prelude.{◌≡◌, true, [], length, Some};
+ghost use Rattle.std.specs.Prelude.{◌≡◌, true, Some};
 ghost use Rattle.operation.specs.Edits.{site as site_of};
 ghost use Rattle.text.specs.Texts.{refused};
-ghost use Rattle.text.specs.Documents.{text_of, room_of};
-ghost use Rattle.client.specs.Clients.{pendings, replica, lowest, edited, edit_answer};
+ghost use Rattle.client.specs.Clients.{client_of, lowest, after_edit, answer_to};
 
 use crate::client::{Client, PENDING_CAPACITY};
-use crate::kind::Kind;
-use crate::refusal::{Refusal, reason_of};
+use crate::refusal::Refusal;
 use operation::entry::Submission;
 use operation::operation::Operation;
-use text::document::{Document, RECORD_CAPACITY};
+use text::document::RECORD_CAPACITY;
 use text::refusal::Refusal as TextRefusal;
 
 // Why an operation is refused while pending is full, given what the text says to it.
@@ -26,95 +24,42 @@ fn when_full(answer: Result<(), TextRefusal>) -> Refusal
 }
 
 impl Client {
-    // A client that has seen the first `revision` entries of the history and has typed nothing.
-    pub fn new(site: u8, revision: u32) -> Client
-        ensures site { result.site ≡ site }
-        ensures revision { result.revision ≡ revision }
-        ensures pending { pendings result ≡ [] }
-    {
-        Client {
-            site,
-            revision,
-            kinds: [Kind::Noop; 256],
-            places: [0; 256],
-            letters: [0; 256],
-            count: 0,
-        }
-    }
-
-    pub fn site(&self) -> u8
-        ensures { result ≡ self.now.site }
-    {
-        self.site
-    }
-
-    // How many entries of the history it has seen.
-    pub fn revision(&self) -> u32
-        ensures { result ≡ self.now.revision }
-    {
-        self.revision
-    }
-
-    pub fn pending_len(&self) -> usize
-        ensures { result ≡ length (pendings self.now) }
-    {
-        self.count
-    }
-
     // Puts a letter in before the one at `place`, or at the end. The answer is what to send.
-    pub fn insert(
-        &mut self,
-        text: &mut Document,
-        place: u32,
-        letter: u32,
-    ) -> Result<Submission, Refusal>
-        ensures answer { result ≡ edit_answer (room_of text.old) (Operation.Insert self.old.site place letter) (replica self.old (text_of text.old)) }
-        ensures after { replica self.new (text_of text.new) ≡ edited (room_of text.old) (Operation.Insert self.old.site place letter) (replica self.old (text_of text.old)) }
-        ensures site { self.new.site ≡ self.old.site }
-        ensures room { room_of text.new ≡ room_of text.old }
+    pub fn insert(&mut self, place: u32, letter: u32) -> Result<Submission, Refusal>
+        ensures answer { result ≡ answer_to (Operation.Insert (client_of self.old).site place letter) (client_of self.old) }
+        ensures after { client_of self.new ≡ after_edit (Operation.Insert (client_of self.old).site place letter) (client_of self.old) }
     {
-        let site = self.site;
-        self.perform(
-            text,
-            Operation::Insert {
-                site,
-                place,
-                letter,
-            },
-        )
+        let site = self.site();
+        self.perform(Operation::Insert {
+            site,
+            place,
+            letter,
+        })
     }
 
     // Takes the letter at `place` away. The answer is what to send.
-    pub fn delete(&mut self, text: &mut Document, place: u32) -> Result<Submission, Refusal>
-        ensures answer { result ≡ edit_answer (room_of text.old) (Operation.Delete self.old.site place) (replica self.old (text_of text.old)) }
-        ensures after { replica self.new (text_of text.new) ≡ edited (room_of text.old) (Operation.Delete self.old.site place) (replica self.old (text_of text.old)) }
-        ensures site { self.new.site ≡ self.old.site }
-        ensures room { room_of text.new ≡ room_of text.old }
+    pub fn delete(&mut self, place: u32) -> Result<Submission, Refusal>
+        ensures answer { result ≡ answer_to (Operation.Delete (client_of self.old).site place) (client_of self.old) }
+        ensures after { client_of self.new ≡ after_edit (Operation.Delete (client_of self.old).site place) (client_of self.old) }
     {
-        let site = self.site;
-        self.perform(text, Operation::Delete { site, place })
+        let site = self.site();
+        self.perform(Operation::Delete { site, place })
     }
 
     // Does an operation of its own, or refuses it and changes nothing.
-    fn perform(&mut self, text: &mut Document, op: Operation) -> Result<Submission, Refusal>
-        requires { site_of op ≡ self.old.site }
-        ensures answer { result ≡ edit_answer (room_of text.old) op (replica self.old (text_of text.old)) }
-        ensures after { replica self.new (text_of text.new) ≡ edited (room_of text.old) op (replica self.old (text_of text.old)) }
-        ensures site { self.new.site ≡ self.old.site }
-        ensures room { room_of text.new ≡ room_of text.old }
+    fn perform(&mut self, op: Operation) -> Result<Submission, Refusal>
+        requires { site_of op ≡ (client_of self.old).site }
+        ensures answer { result ≡ answer_to op (client_of self.old) }
+        ensures after { client_of self.new ≡ after_edit op (client_of self.old) }
     {
         if self.pending_len() >= PENDING_CAPACITY {
-            return Err(when_full(text.check(op, RECORD_CAPACITY)));
+            return Err(when_full(self.text.check(op, RECORD_CAPACITY)));
         }
-        match text.apply(op, RECORD_CAPACITY) {
-            Ok(()) => {
-                self.push(op);
-                Ok(Submission {
-                    revision: self.revision,
-                    op,
-                })
-            }
-            Err(e) => Err(reason_of(e)),
-        }
+        self.text.apply(op, RECORD_CAPACITY)?;
+        self.pending.push(op.into());
+        Ok(Submission {
+            revision: self.revision,
+            op,
+        })
     }
 }

@@ -1,108 +1,171 @@
-// A client's pending operations, read and written as one list.
-ghost use Rattle.std.specs.Prelude.{◌≡◌, ◌<◌, [], ◌∷◌, ◌++◌, length, drop, slice_index_or, slice_set};
+// The operations that a client has performed and that have not come back, the oldest first. All are of one site.
+ghost use Rattle.std.specs.Prelude.{◌≡◌, ◌<◌, ◌≤◌, ◌∷◌, [], ◌++◌, length, drop, slice_index_or, slice_set};
 ghost use Rattle.operation.specs.Edits.{site as site_of};
 ghost use Rattle.operation.specs.Transform.{transformed, through};
-ghost use Rattle.client.specs.Clients.{operation, pendings};
+ghost use Rattle.client.specs.declared.client.TheConstants.{PENDING_CAPACITY};
 
-use crate::client::Client;
+use crate::client::PENDING_CAPACITY;
 use crate::kind::Kind;
 use operation::operation::Operation;
 use operation::transform::transform;
 
-// The operation that one place of the arrays stands for.
-fn operation_of(site: u8, kind: Kind, place: u32, letter: u32) -> Operation
-    ensures value { result ≡ operation site kind place letter }
-    ensures own { site_of result ≡ site }
-{
-    match kind {
-        Kind::Noop => Operation::Noop { site },
-        Kind::Insert => Operation::Insert {
-            site,
+// What the arrays hold of an operation: all but its site.
+#[derive(Clone, Copy)]
+pub(crate) struct Slot {
+    kind: Kind,
+    place: u32,
+    letter: u32,
+}
+
+impl Slot {
+    ghost use Rattle.client.specs.Pendings.{operation_of};
+
+    // The operation of a site that it stands for.
+    fn operation(self, site: u8) -> Operation
+        ensures value { result ≡ operation_of site self }
+        ensures own { site_of result ≡ site }
+    {
+        let Slot {
+            kind,
             place,
             letter,
-        },
-        Kind::Delete => Operation::Delete { site, place },
+        } = self;
+        match kind {
+            Kind::Noop => Operation::Noop { site },
+            Kind::Insert => Operation::Insert {
+                site,
+                place,
+                letter,
+            },
+            Kind::Delete => Operation::Delete { site, place },
+        }
     }
 }
 
-// What the arrays hold of an operation: its kind, place and letter.
-fn parts_of(op: Operation) -> (Kind, u32, u32)
-    ensures { operation (site_of op) result.0 result.1 result.2 ≡ op }
-{
-    match op {
-        Operation::Noop { .. } => (Kind::Noop, 0, 0),
-        Operation::Insert { place, letter, .. } => (Kind::Insert, place, letter),
-        Operation::Delete { place, .. } => (Kind::Delete, place, 0),
+impl From<Operation> for Slot {
+    ghost use Rattle.client.specs.Pendings.{operation_of};
+
+    ghost from_gives = { λ op slot. operation_of (site_of op) slot ≡ op };
+
+    fn from(op: Operation) -> Slot {
+        let (kind, place, letter) = match op {
+            Operation::Noop { .. } => (Kind::Noop, 0, 0),
+            Operation::Insert { place, letter, .. } => (Kind::Insert, place, letter),
+            Operation::Delete { place, .. } => (Kind::Delete, place, 0),
+        };
+        Slot {
+            kind,
+            place,
+            letter,
+        }
     }
 }
 
-impl Client {
+// The list is the first `count` places of the three arrays.
+// That the site stays is a clause of each method: with a model instead, the struct could not be `Copy`, since a list does not give back what lies behind it.
+#[derive(Clone, Copy)]
+pub(crate) struct Pending {
+    site: u8,
+    kinds: [Kind; PENDING_CAPACITY],
+    places: [u32; PENDING_CAPACITY],
+    letters: [u32; PENDING_CAPACITY],
+    count: usize,
+    ghost few: { count ≤ PENDING_CAPACITY },
+    ghost sized: { (length kinds ≡ PENDING_CAPACITY) × (length places ≡ PENDING_CAPACITY) × (length letters ≡ PENDING_CAPACITY) },
+}
+
+#[tactic(auto, using(crate::proofs::Joined::lengths))]
+impl Pending {
+    ghost use Rattle.client.specs.Pendings.{operation_of, pendings};
+
+    // None of this site.
+    pub(crate) fn new(site: u8) -> Pending
+        ensures site { result.site ≡ site }
+        ensures empty { pendings result ≡ [] }
+    {
+        Pending {
+            site,
+            kinds: [Kind::Noop; PENDING_CAPACITY],
+            places: [0; PENDING_CAPACITY],
+            letters: [0; PENDING_CAPACITY],
+            count: 0,
+        }
+    }
+
+    pub(crate) fn site(&self) -> u8
+        ensures { result ≡ self.now.site }
+    {
+        self.site
+    }
+
+    pub(crate) fn len(&self) -> usize
+        ensures { result ≡ length (pendings self.now) }
+    {
+        self.count
+    }
+
     // The operation at `i`.
     fn at(&self, i: usize) -> Operation
-        requires { i < self.now.count }
+        requires { i < length (pendings self.now) }
         ensures value { result ≡ slice_index_or (pendings self.now) i (Operation.Noop 0) }
         ensures own { site_of result ≡ self.now.site }
     {
-        operation_of(self.site, self.kinds[i], self.places[i], self.letters[i])
+        let slot = Slot {
+            kind: self.kinds[i],
+            place: self.places[i],
+            letter: self.letters[i],
+        };
+        slot.operation(self.site)
     }
 
-    // Puts `op`, which is of the same site, in the place of the operation at `i`.
-    fn put(&mut self, i: usize, op: Operation)
-        requires within { i < self.old.count }
-        requires own { site_of op ≡ self.old.site }
-        ensures after { pendings self.new ≡ slice_set (pendings self.old) i op }
-        ensures count { self.new.count ≡ self.old.count }
+    // Puts another in the place of the operation at `i`.
+    fn set(&mut self, i: usize, slot: Slot)
+        requires { i < length (pendings self.old) }
+        ensures after { pendings self.new ≡ slice_set (pendings self.old) i (operation_of self.old.site slot) }
         ensures site { self.new.site ≡ self.old.site }
-        ensures revision { self.new.revision ≡ self.old.revision }
     {
-        let (kind, place, letter) = parts_of(op);
-        self.kinds[i] = kind;
-        self.places[i] = place;
-        self.letters[i] = letter;
+        self.kinds[i] = slot.kind;
+        self.places[i] = slot.place;
+        self.letters[i] = slot.letter;
     }
 
-    // Puts `op`, which is of the same site, behind the last.
-    pub(crate) fn push(&mut self, op: Operation)
-        requires room { length (pendings self.old) < 256 }
-        requires own { site_of op ≡ self.old.site }
-        ensures after { pendings self.new ≡ pendings self.old ++ op ∷ [] }
+    // Puts one behind the last.
+    pub(crate) fn push(&mut self, slot: Slot)
+        requires { length (pendings self.old) < PENDING_CAPACITY }
+        ensures after { pendings self.new ≡ pendings self.old ++ operation_of self.old.site slot ∷ [] }
         ensures site { self.new.site ≡ self.old.site }
-        ensures revision { self.new.revision ≡ self.old.revision }
     {
         let last = self.count;
-        self.count = last + 1;
-        self.put(last, op);
+        self.count += 1;
+        self.set(last, slot);
     }
 
-    // The client without its first pending operation; with none, as it was.
-    pub(crate) fn without_first(self) -> Client
-        ensures after { pendings result ≡ drop 1 (pendings self) }
-        ensures site { result.site ≡ self.site }
-        ensures revision { result.revision ≡ self.revision }
+    // Takes the first away, if there is one.
+    pub(crate) fn remove_first(&mut self)
+        ensures after { pendings self.new ≡ drop 1 (pendings self.old) }
+        ensures site { self.new.site ≡ self.old.site }
     {
-        let mut left = self;
-        let count = left.count;
+        let count = self.count;
         if count == 0 {
-            return left;
+            return;
         }
-        left.kinds.copy_within(1..count, 0);
-        left.places.copy_within(1..count, 0);
-        left.letters.copy_within(1..count, 0);
-        left.count = count - 1;
-        left
+        self.kinds.copy_within(1..count, 0);
+        self.places.copy_within(1..count, 0);
+        self.letters.copy_within(1..count, 0);
+        self.count = count - 1;
     }
 
-    // Passes `op` through the pending operations: past each in turn, while each goes past `op` as it is by then. The answer is what `op` has become.
+    // Passes `op` through the list: past each in turn, while each goes past `op` as it is by then. The answer is what `op` has become.
+    // By the index: an iterator would have to go over three arrays in step.
     pub(crate) fn pass(&mut self, op: Operation) -> Operation
         ensures one { result ≡ (through transformed transformed op (pendings self.old)).one }
         ensures others { pendings self.new ≡ (through transformed transformed op (pendings self.old)).others }
         ensures site { self.new.site ≡ self.old.site }
-        ensures revision { self.new.revision ≡ self.old.revision }
     {
         let mut one = op;
         for i in 0..self.count {
             let old = self.at(i);
-            self.put(i, transform(old, one));
+            self.set(i, transform(old, one).into());
             one = transform(one, old);
         }
         one

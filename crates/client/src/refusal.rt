@@ -35,12 +35,14 @@ impl Refusal {
 }
 
 // The client's name for a text's reason.
-pub fn reason_of(e: TextRefusal) -> Refusal
-    ensures { result ≡ reason e }
-{
-    match e {
-        TextRefusal::BadLetter => Refusal::BadLetter,
-        TextRefusal::BeyondText => Refusal::BeyondText,
-        TextRefusal::TextFull => Refusal::TextFull,
+impl From<TextRefusal> for Refusal {
+    ghost from_gives = { λ e r. r ≡ reason e };
+
+    fn from(e: TextRefusal) -> Refusal {
+        match e {
+            TextRefusal::BadLetter => Refusal::BadLetter,
+            TextRefusal::BeyondText => Refusal::BeyondText,
+            TextRefusal::TextFull => Refusal::TextFull,
+        }
     }
 }

@@ -1,16 +1,14 @@
 // The entries of the history as a client sees them, one by one.
-ghost use Rattle.std.specs.Prelude.{◌≡◌, ◌+◌, ◌<◌, drop};
+ghost use Rattle.std.specs.Prelude.{◌≡◌, ◌<◌};
 ghost use Rattle.text.specs.Texts.{refusal};
 ghost use Rattle.text.specs.Coded.{coded};
-ghost use Rattle.text.specs.Documents.{text_of, room_of};
-ghost use Rattle.client.specs.Replicas.{passed, received};
-ghost use Rattle.client.specs.Clients.{pendings, replica, reasons, unless, see_refusal, after_seeing, handed_back, refused_seeing, due};
+ghost use Rattle.client.specs.Replicas.{passed, confirmed, received};
+ghost use Rattle.client.specs.Clients.{client_of, with_replica, reasons, unless, entry_refusal, after_entry, handed_back, refused_seeing, due};
 
 use crate::client::Client;
-use crate::refusal::{Refusal, reason_of};
+use crate::refusal::Refusal;
 use operation::entry::{Entry, HISTORY_CAPACITY};
 use operation::operation::Operation;
-use text::document::Document;
 
 // How many entries a client sees from one report to the next.
 const REPORT_EVERY: u32 = 1024;
@@ -18,58 +16,54 @@ const REPORT_EVERY: u32 = 1024;
 impl Client {
     // Sees the next entry: its own is no longer pending, and another's is done to the text, past all that is pending.
     // An entry that is refused changes nothing, and the client is handed back with the reason.
-    pub fn see(self, text: &mut Document, entry: Entry) -> Result<Client, (Client, Refusal)>
-        ensures answer { refused_seeing result ≡ see_refusal (room_of text.old) self.site entry (replica self (text_of text.old)) }
-        ensures after { replica (handed_back result) (text_of text.new) ≡ after_seeing (room_of text.old) self.site entry (replica self (text_of text.old)) }
-        ensures site { (handed_back result).site ≡ self.site }
-        ensures room { room_of text.new ≡ room_of text.old }
+    pub fn see(self, entry: Entry) -> Result<Client, (Client, Refusal)>
+        ensures answer { refused_seeing result ≡ entry_refusal entry (client_of self) }
+        ensures after { client_of (handed_back result) ≡ after_entry entry (client_of self) }
     {
         if entry.place != self.revision || entry.place >= HISTORY_CAPACITY {
             Err((self, Refusal::NotNext))
-        } else if entry.op.site() == self.site {
+        } else if entry.op.site() == self.site() {
             Ok(self.see_own())
         } else {
-            self.see_other(text, entry.op)
+            self.see_other(entry.op)
         }
     }
 
     // The first of its pending operations has come back.
-    fn see_own(self) -> Client
+    fn see_own(mut self) -> Client
         requires { self.revision < 4294967294 }
-        ensures pending { pendings result ≡ drop 1 (pendings self) }
-        ensures revision { result.revision ≡ self.revision + 1 }
-        ensures site { result.site ≡ self.site }
+        ensures { client_of result ≡ with_replica (confirmed coded (client_of self).replica) (client_of self) }
     {
-        let mut left = self.without_first();
-        left.revision += 1;
-        left
+        self.pending.remove_first();
+        self.revision += 1;
+        self
     }
 
     // Another's operation goes past all that is pending and is done to the text.
-    fn see_other(self, text: &mut Document, op: Operation) -> Result<Client, (Client, Refusal)>
+    fn see_other(mut self, op: Operation) -> Result<Client, (Client, Refusal)>
         requires { self.revision < 4294967294 }
-        ensures answer { refused_seeing result ≡ reasons (refusal (room_of text.old) (passed coded op (replica self (text_of text.old))).one (text_of text.old)) }
-        ensures after { replica (handed_back result) (text_of text.new) ≡ unless (refused_seeing result) (received coded op (replica self (text_of text.old))) (replica self (text_of text.old)) }
-        ensures site { (handed_back result).site ≡ self.site }
-        ensures room { room_of text.new ≡ room_of text.old }
+        ensures answer { refused_seeing result ≡ reasons (refusal (client_of self).room (passed coded op (client_of self).replica).one (client_of self).replica.text) }
+        ensures after { client_of (handed_back result) ≡ with_replica (unless (refused_seeing result) (received coded op (client_of self).replica) (client_of self).replica) (client_of self) }
     {
-        let mut seen = self;
-        let done = seen.pass(op);
-        seen.revision += 1;
-        match text.apply(done, usize::MAX) {
-            Ok(()) => Ok(seen),
-            Err(e) => Err((self, reason_of(e))),
+        let before = self.pending;
+        let passed = self.pending.pass(op);
+        match self.text.apply(passed, usize::MAX) {
+            Ok(()) => {
+                self.revision += 1;
+                Ok(self)
+            }
+            Err(refusal) => {
+                self.pending = before;
+                Err((self, refusal.into()))
+            }
         }
     }
 
     // The revision to tell the server, if it is due.
     pub fn report(&self) -> Option<u32>
-        ensures { result ≡ due self.now.revision }
+        ensures { result ≡ due (client_of self.now).replica.revision }
     {
-        if self.revision > 0 && self.revision % REPORT_EVERY == 0 {
-            Some(self.revision)
-        } else {
-            None
-        }
+        let due = self.revision > 0 && self.revision % REPORT_EVERY == 0;
+        due.then_some(self.revision)
     }
 }

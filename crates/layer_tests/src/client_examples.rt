@@ -5,6 +5,7 @@ use operation::entry::{Entry, Submission};
 use operation::operation::Operation;
 use std::test::Fail;
 use text::document::Document;
+use text::refusal::Refusal as TextRefusal;
 
 fn insert(site: u8, place: u32, letter: u32) -> Operation {
     Operation::Insert {
@@ -18,18 +19,18 @@ fn insert(site: u8, place: u32, letter: u32) -> Operation {
 fn outcome(seen: Result<Client, (Client, Refusal)>) -> (Client, u8) {
     match seen {
         Ok(client) => (client, 0),
-        Err(refused) => (refused.0, refused.1.number()),
+        Err((client, refusal)) => (client, refusal.number()),
     }
 }
 
 #[test]
 fn types_and_sees(rt: HostRuntime) -> Result<(), Fail> {
-    let mut text = Document::with_capacity(rt.alloc(), 9)?;
-    let mut client = Client::new(1, 0);
+    let text = Document::with_capacity(rt.alloc(), 9)?;
+    let mut client = Client::new(1, 0, text);
     for (place, letter) in [(0, 98), (1, 99)] {
         let op = insert(1, place, letter);
         assert_eq!(rt;
-            client.insert(&mut text, place, letter),
+            client.insert(place, letter),
             Ok(Submission { revision: 0, op })
         );
     }
@@ -49,15 +50,15 @@ fn types_and_sees(rt: HostRuntime) -> Result<(), Fail> {
         (3, insert(1, 1, 99), 0, &[97, 99], 0),
     ];
     for (place, op, number, letters, pending) in cases {
-        let (next, got) = outcome(client.see(&mut text, Entry { place, op }));
+        let (next, got) = outcome(client.see(Entry { place, op }));
         client = next;
         assert_eq!(rt; got, number);
-        assert!(rt; text.letters() == letters);
+        assert!(rt; client.text().letters() == letters);
         assert_eq!(rt; client.pending_len(), pending);
     }
     assert!(rt; client.site() == 1 && client.revision() == 4);
     assert_eq!(rt;
-        client.delete(&mut text, 0),
+        client.delete(0),
         Ok(Submission {
             revision: 4,
             op: Operation::Delete { site: 1, place: 0 },
@@ -68,24 +69,36 @@ fn types_and_sees(rt: HostRuntime) -> Result<(), Fail> {
 
 #[test]
 fn refuses_the_lowest_number_first(rt: HostRuntime) -> Result<(), Fail> {
-    let mut text = Document::with_capacity(rt.alloc(), PENDING_CAPACITY)?;
-    let mut client = Client::new(1, 0);
-    assert_eq!(rt; client.delete(&mut text, 0), Err(Refusal::BeyondText));
+    let text = Document::with_capacity(rt.alloc(), PENDING_CAPACITY)?;
+    let mut client = Client::new(1, 0, text);
+    assert_eq!(rt; client.delete(0), Err(Refusal::BeyondText));
     for _ in 0..PENDING_CAPACITY {
-        assert!(rt; client.insert(&mut text, 0, 97).is_ok());
+        assert!(rt; client.insert(0, 97).is_ok());
     }
-    assert_eq!(rt; client.insert(&mut text, 257, 0), Err(Refusal::BadLetter));
-    assert_eq!(rt; client.insert(&mut text, 257, 97), Err(Refusal::BeyondText));
-    assert_eq!(rt;
-        client.insert(&mut text, 256, 97),
-        Err(Refusal::PendingFull)
-    );
-    assert_eq!(rt; client.delete(&mut text, 0), Err(Refusal::PendingFull));
+    assert_eq!(rt; client.insert(257, 0), Err(Refusal::BadLetter));
+    assert_eq!(rt; client.insert(257, 97), Err(Refusal::BeyondText));
+    assert_eq!(rt; client.insert(256, 97), Err(Refusal::PendingFull));
+    assert_eq!(rt; client.delete(0), Err(Refusal::PendingFull));
     let op = insert(0, 0, 97);
-    let (same, number) = outcome(client.see(&mut text, Entry { place: 0, op }));
+    let (same, number) = outcome(client.see(Entry { place: 0, op }));
     assert_eq!(rt; number, 7);
-    assert_eq!(rt; text.len(), PENDING_CAPACITY);
+    assert_eq!(rt; same.text().len(), PENDING_CAPACITY);
     assert_eq!(rt; same.pending_len(), PENDING_CAPACITY);
-    assert!(rt; same.report().is_none() && Client::new(1, 1024).report() == Some(1024));
+    assert!(rt; same.report().is_none());
+    let empty = Document::with_capacity(rt.alloc(), 0)?;
+    assert!(rt; Client::new(1, 1024, empty).report() == Some(1024));
+    Ok(())
+}
+
+#[test]
+fn begins_anew_where_there_is_room(rt: HostRuntime) -> Result<(), Fail> {
+    let mut text = Document::with_capacity(rt.alloc(), 2)?;
+    let mut client = Client::new(1, 0, Document::with_capacity(rt.alloc(), 1)?);
+    assert!(rt; client.insert(0, 98).is_ok() && text.apply(insert(0, 0, 97), 2).is_ok());
+    assert!(rt; client.begin(2, 1, &text).is_ok() && client.text().letters() == [97].as_slice());
+    assert!(rt; client.site() == 2 && client.revision() == 1 && client.pending_len() == 0);
+    assert!(rt; text.apply(insert(0, 0, 97), 2).is_ok());
+    assert_eq!(rt; client.begin(3, 2, &text), Err(TextRefusal::TextFull));
+    assert!(rt; client.site() == 2 && client.text().len() == 1);
     Ok(())
 }

@@ -33,34 +33,34 @@ fn entry(place: u32, op: Operation) -> Result<Entry, Refusal> {
 
 #[test]
 fn two_write_at_one_place(rt: HostRuntime) -> Result<(), Fail> {
-    let mut server = Server::new(rt.alloc())?;
-    let mut text = Document::with_capacity(rt.alloc(), 9)?;
+    let text = Document::with_capacity(rt.alloc(), 9)?;
+    let mut server = Server::new(rt.alloc(), text)?;
     assert_eq!(rt; server.join(3), joined(3, 0, 0));
     assert_eq!(rt; server.join(3), joined(15, 0, 0));
     assert_eq!(rt;
-        server.take(&mut text, at(0, insert(15, 0, 98))),
+        server.take(at(0, insert(15, 0, 98))),
         entry(0, insert(15, 0, 98))
     );
     // The lower site's letter comes first.
     assert_eq!(rt;
-        server.take(&mut text, at(0, insert(3, 0, 97))),
+        server.take(at(0, insert(3, 0, 97))),
         entry(1, insert(3, 0, 97))
     );
     // Site 3 has not seen the other's letter yet.
     assert_eq!(rt;
-        server.take(&mut text, at(0, insert(3, 1, 99))),
+        server.take(at(0, insert(3, 1, 99))),
         entry(2, insert(3, 1, 99))
     );
     assert_eq!(rt;
-        server.take(&mut text, at(1, insert(15, 1, 100))),
+        server.take(at(1, insert(15, 1, 100))),
         entry(3, insert(15, 3, 100))
     );
-    assert!(rt; text.letters() == [97, 99, 98, 100].as_slice());
-    assert!(rt; text.sites() == [3, 3, 15, 15].as_slice());
+    assert!(rt; server.text().letters() == [97, 99, 98, 100].as_slice());
+    assert!(rt; server.text().sites() == [3, 3, 15, 15].as_slice());
     assert!(rt; server.revision() == 4 && server.entry(4).is_none());
     assert_eq!(rt; server.join(3), joined(14, 4, 0));
-    assert!(rt; server.restart(&mut text).is_ok());
-    assert!(rt; text.letters() == [97, 99, 98, 100].as_slice());
+    assert!(rt; server.restart().is_ok());
+    assert!(rt; server.text().letters() == [97, 99, 98, 100].as_slice());
     assert!(rt; !server.is_connected(3) && !server.is_connected(15));
     assert_eq!(rt; server.join(3), joined(3, 4, 2));
     Ok(())
@@ -68,25 +68,25 @@ fn two_write_at_one_place(rt: HostRuntime) -> Result<(), Fail> {
 
 #[test]
 fn refuses(rt: HostRuntime) -> Result<(), Fail> {
-    let mut server = Server::new(rt.alloc())?;
-    let mut text = Document::with_capacity(rt.alloc(), 9)?;
+    let text = Document::with_capacity(rt.alloc(), 9)?;
+    let mut server = Server::new(rt.alloc(), text)?;
     let first = at(0, insert(7, 0, 97));
-    assert_eq!(rt; server.take(&mut text, first), Err(Refusal::NotConnected));
+    assert_eq!(rt; server.take(first), Err(Refusal::NotConnected));
     assert_eq!(rt; server.join(7), joined(7, 0, 0));
     assert_eq!(rt;
-        server.take(&mut text, at(1, insert(7, 1, 97))),
+        server.take(at(1, insert(7, 1, 97))),
         Err(Refusal::BeyondText)
     );
     assert_eq!(rt; server.hear(7, 0), Err(Refusal::NotConnected));
     assert_eq!(rt; server.join(7), joined(7, 0, 0));
-    assert_eq!(rt; server.take(&mut text, first), entry(0, insert(7, 0, 97)));
+    assert_eq!(rt; server.take(first), entry(0, insert(7, 0, 97)));
     assert_eq!(rt; server.hear(7, 1), Ok(()));
-    assert_eq!(rt; server.take(&mut text, first), Err(Refusal::BadRevision));
+    assert_eq!(rt; server.take(first), Err(Refusal::BadRevision));
     assert_eq!(rt; server.join(200), joined(15, 1, 0));
     server.end(15);
     assert!(rt; !server.is_connected(15));
     assert_eq!(rt; server.join(7), joined(7, 1, 1));
     assert_eq!(rt; server.hear(7, 2), Err(Refusal::BadRevision));
-    assert!(rt; server.revision() == 1 && text.len() == 1);
+    assert!(rt; server.revision() == 1 && server.text().len() == 1);
     Ok(())
 }

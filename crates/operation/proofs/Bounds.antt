@@ -54,14 +54,14 @@ module _ {A : Type 0} where
   others_room i (b ∷ bs) t h o =
       (fits_room 1 b t (omega arith) o.1, others_room i bs (apply b t) (omega (arith, length-apply b t o.1)) o.2)
 
-pub commutes : (a : Operation ℕ) (bs : List (Operation ℕ)) (r : Operation ℕ) (cs : List (Operation ℕ)) →
-    r ≡ (through transformed transformed a bs).one → cs ≡ (through transformed transformed a bs).others → Commutes a bs r cs
-commutes a bs r cs e f t h fa o =
-    let x = through_exact a bs (fits_room (length bs) a t h fa) (others_room (site a) bs t h o) in
-    let m = (tp1_through (singles ℕ) (laws ℕ)).late_through a bs t fa o in
-    let er = e ∙ ap (λ (p : Passed (Operation ℕ)). p.one) x in
-    let ec = f ∙ ap (λ (p : Passed (Operation ℕ)). p.others) x in (
-      subst (λ z. Fits z (apply_all (singles ℕ) bs t)) (sym er) m.one_fits,
-      subst (λ z. Others (singles ℕ) (site a) z (apply a t)) (sym ec) m.others_fit,
-      ap (λ z. apply z (apply_all (singles ℕ) bs t)) er ∙ m.one_text ∙ ap (λ z. apply_all (singles ℕ) z (apply a t)) (sym ec),
-    )
+  pub commutes : (a : Operation A) (bs : List (Operation A)) (r : Operation A) (cs : List (Operation A)) →
+      r ≡ (through transformed transformed a bs).one → cs ≡ (through transformed transformed a bs).others → Commutes a bs r cs
+  commutes a bs r cs e f t h fa o =
+      let x = through_exact a bs (fits_room (length bs) a t h fa) (others_room (site a) bs t h o) in
+      let m = (tp1_through (singles A) (laws A)).late_through a bs t fa o in
+      let er = e ∙ ap (λ (p : Passed (Operation A)). p.one) x in
+      let ec = f ∙ ap (λ (p : Passed (Operation A)). p.others) x in (
+        subst (λ z. Fits z (apply_all (singles A) bs t)) (sym er) m.one_fits,
+        subst (λ z. Others (singles A) (site a) z (apply a t)) (sym ec) m.others_fit,
+        ap (λ z. apply z (apply_all (singles A) bs t)) er ∙ m.one_text ∙ ap (λ z. apply_all (singles A) z (apply a t)) (sym ec),
+      )

@@ -13,7 +13,7 @@ pub enum Operation<L = u32> {
     Delete { site: u8, place: u32 },
 }
 
-impl Operation {
+impl<L: Copy> Operation<L> {
     // The number of the client that made it.
     pub fn site(self) -> u8
         ensures { result ≡ site_of self }
@@ -26,7 +26,7 @@ impl Operation {
     }
 
     // The same edit at another place.
-    pub(crate) fn moved(self, place: u32) -> Operation
+    pub(crate) fn moved(self, place: u32) -> Self
         ensures { result ≡ moved_to place self }
     {
         match self {

@@ -8,7 +8,7 @@ use crate::entry::Entry;
 use crate::operation::Operation;
 
 // What `a` becomes when `b` was done first. Of two that insert at one place the lower site's letter comes first.
-pub fn transform(a: Operation, b: Operation) -> Operation
+pub fn transform<L: Copy>(a: Operation<L>, b: Operation<L>) -> Operation<L>
     ensures { result ≡ transformed a b }
 {
     match a {
@@ -56,7 +56,10 @@ pub fn transform(a: Operation, b: Operation) -> Operation
 }
 
 // Passes `op` through the entries in place: past each in turn, while each goes past `op` as it is by then. The answer is what `op` has become.
-pub fn transform_through(op: Operation, list: &mut [Entry]) -> Operation
+pub fn transform_through<L: Copy>(
+    op: Operation<L>,
+    list: &mut [Entry<Operation<L>>],
+) -> Operation<L>
     ensures one { result ≡ (through transformed transformed op (operations list.old)).one }
     ensures others { list.new ≡ replaced list.old (through transformed transformed op (operations list.old)).others }
     ensures tp1 { Commutes op (operations list.old) result (operations list.new) }

@@ -1,12 +1,15 @@
 -- The seats of a server whose sessions are changed one by one.
-use Rattle.std.proofs.Common.{◌≡◌, ℕ, zero, suc, ◌<◌, ◌≤◌, Bool, true, cond, eqb, List, [], ◌∷◌, ◌++◌, map, length, get_or, set, vec_items, sym, refl, ap, ◌∙◌, ⊎_elim, arith}
-use Rattle.std.proofs.lemmas.List.{get_or-map, get_or_past, get_or-set_same, get_or-set_other, map-set, length-map}
-use Rattle.std.proofs.lemmas.Bool.{cases_eq, cases_lt, false≢true, eq-eqb, ne_eqb, cond-true, cond-false}
+use Rattle.std.proofs.Common.{◌≡◌, ℕ, All, zero, suc, ◌<◌, ◌≤◌, true, cond, eqb, List, [], ◌∷◌, map, length, get_or, set, sym, refl, ap, ◌∙◌, ⊎_elim, arith}
+use Rattle.std.proofs.lemmas.List.{get_or-map, get_or_past, map-set, length-map}
+use Rattle.std.proofs.lemmas.Bool.{cases_lt, false≢true}
+use Rattle.std.proofs.lemmas.Grind.{common_steps}
+use Rattle.std.proofs.lemmas.Bool.Decides.{nat_tests}
+use Rattle.text.specs.Coded.{coded}
+use Rattle.text.specs.Texts.{Letter}
 use Rattle.server.specs.declared.session.Session.{Session}
-use Rattle.server.specs.declared.server.Server.{Server}
-use Rattle.server.specs.Sessions.{Seat, free}
+use Rattle.server.specs.Sessions.{Seat, free, ServerState}
 use Rattle.server.specs.Seats.{Op, seat_of, seats_in}
-use Rattle.server.specs.Servers.{seats}
+use Rattle.server.specs.Servers.{with_seat}
 
 pub seat_at : (ss : List Session) (i : ℕ) (s : Session) → i < length ss → s ≡ get_or ss i s → seats_in ss i ≡ seat_of s
 seat_at ss i s h e = get_or-map seat_of ss i s free h ∙ ap seat_of (sym e)
@@ -18,30 +21,20 @@ seat_past ss i h = get_or_past (map seat_of ss) i free (let l = length-map ss se
 pub seat_set : (ss : List Session) (i : ℕ) (s : Session) (x : Seat Op) → i < length ss → seat_of s ≡ x → (j : ℕ) → seats_in (set ss i s) j ≡ cond (eqb j i) x (seats_in ss j)
 seat_set ss i s x h e j =
     let l = length-map ss seat_of in
-    ap (λ (xs : List (Seat Op)). get_or xs j free) (map-set seat_of ss i s)
-    ∙ ⊎_elim
-    (λ n. ap (λ k. get_or (set (map seat_of ss) i (seat_of s)) k free) n ∙ get_or-set_same (map seat_of ss) i (seat_of s) free (omega arith) ∙ e ∙ sym (cond-true _ x (seats_in ss j) (eq-eqb j i n)))
-    (λ n. get_or-set_other (map seat_of ss) i j (seat_of s) free n ∙ sym (cond-false _ x (seats_in ss j) (ne_eqb j i n)))
-    (cases_eq j i)
+    let m = map-set seat_of ss i s in
+    rw m (grind (arith, common_steps, nat_tests, e))
 
--- what is written at a site that a seat has already
-pub seat_same : (ss : List Session) (i : ℕ) (x : Seat Op) → seats_in ss i ≡ x → (j : ℕ) → seats_in ss j ≡ cond (eqb j i) x (seats_in ss j)
-seat_same ss i x e j =
-    ⊎_elim
-    (λ n. ap (seats_in ss) n ∙ e ∙ sym (cond-true _ x (seats_in ss j) (eq-eqb j i n)))
-    (λ n. sym (cond-false _ x (seats_in ss j) (ne_eqb j i n)))
-    (cases_eq j i)
+-- the session of site k is another
+pub seat_written : (t : List Letter) (h : List Op) (ss : List Session) (i k : ℕ) (s : Session) (x : Seat Op) → i ≡ k → i < length ss → seat_of s ≡ x →
+    ◌≡◌ {A = ServerState coded} (record { text = t; history = h; seats = seats_in (set ss i s) }) (with_seat k x (record { text = t; history = h; seats = seats_in ss }))
+seat_written t h ss i k s x e l is = λ u. record { text = t; history = h; seats = λ j. (seat_set ss i s x l is j ∙ ap (λ n. cond (eqb j n) x (seats_in ss j)) e) u }
 
 pub seat_connected : (ss : List Session) (i : ℕ) → (seats_in ss i).connected ≡ true → i < length ss
 seat_connected ss i e =
     ⊎_elim (λ l. l) (λ l. absurd (false≢true (sym (ap (λ (s : Seat Op). s.connected) (seat_past ss i l)) ∙ e))) (cases_lt i (length ss))
 
-pub seats-push : (ss : List Session) (s : Session) → ((j : ℕ) → seats_in ss j ≡ free) → seat_of s ≡ free → (j : ℕ) → seats_in (ss ++ s ∷ []) j ≡ free
-seats-push [] s h e zero = e
-seats-push [] s h e (suc j) = refl
-seats-push (x ∷ ss) s h e zero = h 0
-seats-push (x ∷ ss) s h e (suc j) = seats-push ss s (λ k. h (suc k)) e j
-
--- a site that has a client is one of the sixteen
-pub site_below : (v : Server) (i : ℕ) (b : Bool) → b ≡ (seats v i).connected → b ≡ true → i < 16
-site_below v i b e t = let l = seat_connected (vec_items v.sessions) i (sym e ∙ t) in omega arith
+-- where every session is free, so is every site
+pub all_free : (ss : List Session) → All (λ s. seat_of s ≡ free) ss → (i : ℕ) → seats_in ss i ≡ free
+all_free [] all i = refl
+all_free (s ∷ ss) all zero = all 0 s (omega arith)
+all_free (s ∷ ss) all (suc i) = all_free ss (λ k d l. all (suc k) d (omega arith)) i

@@ -1,5 +1,5 @@
 -- A seat as the code has it, and its limit.
-use Rattle.std.specs.Prelude.{ℕ, cond, List, map, length, vec_items, nat_le, slice_index_or}
+use Rattle.std.specs.Prelude.{ℕ, cond, List, map, length, vec_items, is_some, unwrap_or, nat_le, slice_index_or}
 use Rattle.operation.specs.declared.operation.Operation.{Operation}
 use Rattle.operation.specs.Entries.{operations, replaced}
 use Rattle.operation.specs.Transform.{transformed, through}
@@ -10,7 +10,7 @@ abbrev pub Op : Type 0
 Op = Operation ℕ
 
 abbrev pub seat_of : Session → Seat Op
-seat_of s = record { connected = s.connected; said = s.said; concurrent = vec_items s.list }
+seat_of s = record { connected = is_some s.said; said = unwrap_or s.said 0; concurrent = vec_items s.list }
 
 -- the seat of a site among the sessions; none beyond them
 abbrev pub seats_in : List Session → ℕ → Seat Op

@@ -1,18 +1,19 @@
 -- The server's calls: what they answer and what they leave. Limits of the code are here.
-use Rattle.std.specs.Prelude.{◌≡◌, ℕ, zero, suc, min, Bool, cond, ◌||◌, List, [], ◌∷◌, length, Some, None, Ok, Err, vec_items, Option, Result, ◌==◌, nat_le, nat_lt, slice_index_or}
+use Rattle.std.specs.Prelude.{◌≡◌, ℕ, zero, suc, min, Bool, cond, ◌||◌, List, [], ◌∷◌, ◌++◌, length, Some, None, Ok, Err, vec_items, Option, Result, count_by, ◌==◌, nat_le, nat_lt, slice_index_or}
 use Rattle.operation.specs.declared.operation.Operation.TheVariants.{Noop}
 use Rattle.operation.specs.declared.entry.Entry.{Entry}
 use Rattle.operation.specs.declared.entry.Submission.{Submission}
 use Rattle.operation.specs.Edits.{site, apply}
 use Rattle.text.specs.declared.refusal.Refusal.{Refusal as TextRefusal}
 use Rattle.text.specs.declared.refusal.Refusal.TheVariants as text
-use Rattle.text.specs.Texts.{Letter, signed, refusal}
+use Rattle.text.specs.Documents.{TextState}
+use Rattle.text.specs.Texts.{Letter, signed, refusal, applied}
 use Rattle.text.specs.Coded.{coded}
 use Rattle.server.specs.declared.refusal.Refusal.{Refusal}
 use Rattle.server.specs.declared.refusal.Refusal.TheVariants.{BadLetter, NotConnected, BeyondText, BadRevision, Full, SitesInUse, OutOfMemory}
 use Rattle.server.specs.declared.joined.Joined.{Joined}
 use Rattle.server.specs.declared.server.Server.{Server}
-use Rattle.server.specs.Sessions.{Seat, free, joined_at, heard, ServerState, arrival, taken}
+use Rattle.server.specs.Sessions.{Seat, free, joined_at, heard, told, ServerState, arrival, taken}
 pub use Rattle.server.specs.Seats.{Op, seat_of, seats_in, bounded}
 
 -- THE STATE
@@ -23,9 +24,19 @@ seats v i = seats_in (vec_items v.sessions) i
 abbrev pub history_of : Server → List Op
 history_of v = vec_items v.history
 
--- a server with the text that is lent beside it
-abbrev pub state_of : Server → List Letter → ServerState coded
-state_of v t = record { text = t; history = history_of v; seats = seats v }
+abbrev pub text_of : Server → TextState
+text_of v = v.text
+
+-- how many letters its text has room for
+abbrev pub room_of : Server → ℕ
+room_of v = (text_of v).room
+
+abbrev pub state_of : Server → ServerState coded
+state_of v = record { text = (text_of v).letters; history = history_of v; seats = seats v }
+
+-- nothing has happened yet but to the text
+abbrev pub started : List Letter → ServerState coded
+started t = record { text = t; history = []; seats = λ i. free }
 
 -- THE LIMITS
 -- a revision that the client cannot have: above the history, or below what it said before
@@ -59,16 +70,24 @@ overflowed i v = record { text = v.text; history = v.history; seats = λ j. cond
 abbrev pub taken_bounded : ℕ → Submission Op → ServerState coded → ServerState coded
 taken_bounded i m v = overflowed i (taken coded i m v)
 
+-- an operation of site i stands at the end of the history, is done to the text with room for n letters, and is told to the other clients
+abbrev pub added : ℕ → ℕ → Op → ServerState coded → ServerState coded
+added n i o v = record {
+  text = applied (min n 65536) o v.text;
+  history = v.history ++ o ∷ [];
+  seats = λ j. cond (j == i) (v.seats j) (bounded (told (record { place = length v.history; op = o }) (v.seats j)));
+}
+
 -- WHAT A CALL LEAVES
-pub record Same (v w : ServerState coded) : Type 0 where
-  pub text : v.text ≡ w.text
-  pub history : v.history ≡ w.history
-  pub seats : (i : ℕ) → v.seats i ≡ w.seats i
+-- a state, and the room for letters that there was
+pub record Leaves (was now : Server) (after : ServerState coded) : Type 0 where
+  pub state : state_of now ≡ after
+  pub room : room_of now ≡ room_of was
 
 -- the answer and the state that the rules give; or memory was wanting, and nothing has changed
-pub data Outcome {A : Type 0} (answer : Result A Refusal) (was after : ServerState coded) (r : Result A Refusal) (now : ServerState coded) : Type 0 where
-  done : r ≡ answer → Same now after → Outcome answer was after r now
-  no_memory : r ≡ Err OutOfMemory → Same now was → Outcome answer was after r now
+pub data Outcome {A : Type 0} (answer : Result A Refusal) (was : Server) (after : ServerState coded) (r : Result A Refusal) (now : Server) : Type 0 where
+  done : r ≡ answer → Leaves was now after → Outcome answer was after r now
+  no_memory : r ≡ Err OutOfMemory → Leaves was now (state_of was) → Outcome answer was after r now
 
 abbrev pub answered : {A : Type 0} → Option Refusal → A → Result A Refusal
 answered None x = Ok x
@@ -88,8 +107,8 @@ take_answer n m v =
 abbrev pub take_after : ℕ → Submission Op → ServerState coded → ServerState coded
 take_after n m v = cond (v.seats (site m.op)).connected (after_taking (take_refusal n m (v.seats (site m.op)) v) (site m.op) m v) v
 
-abbrev pub Taking : ℕ → Submission Op → ServerState coded → Result (Entry Op) Refusal → ServerState coded → Type 0
-Taking n m was r now = Outcome (take_answer n m was) was (take_after n m was) r now
+abbrev pub Taking : Submission Op → Server → Result (Entry Op) Refusal → Server → Type 0
+Taking m was r now = Outcome (take_answer (room_of was) m (state_of was)) was (take_after (room_of was) m (state_of was)) r now
 
 -- HEARING a revision so far
 abbrev pub hear_answer : ℕ → ℕ → ServerState coded → Result (Unit {0}) Refusal
@@ -107,9 +126,8 @@ abbrev pub site_for : ℕ → (ℕ → Seat Op) → Option ℕ
 site_for w f = cond (nat_lt w 16) (cond (f w).connected (highest_free 16 f) (Some w)) (highest_free 16 f)
 
 -- how many of the operations are of site i
-unfoldable pub site_count : ℕ → List Op → ℕ
-site_count i [] = 0
-site_count i (o ∷ os) = cond (site o == i) (suc (site_count i os)) (site_count i os)
+abbrev pub site_count : ℕ → List Op → ℕ
+site_count i os = count_by (λ o. site o == i) os
 
 abbrev pub join_answer : Option ℕ → ServerState coded → Result Joined Refusal
 join_answer None v = Err SitesInUse

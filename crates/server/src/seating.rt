@@ -1,28 +1,23 @@
 // The sessions of all sites, and the history, gone through one by one.
-ghost use Rattle.std.specs.Prelude.{◌≡◌, ℕ, ◌^◌, ◌<◌, ◌≤◌, length, IfSome, IfOk, if◌then◌else◌, vec_len, nat_eq};
+ghost use Rattle.std.specs.Prelude.{◌≡◌, ℕ, All, IfOk, if◌then◌else◌, vec_len, nat_eq};
 ghost use Rattle.server.specs.Sessions.{free, told};
-ghost use Rattle.server.specs.Seats.{seats_in, bounded};
-ghost use Rattle.server.specs.Servers.{highest_free, site_count};
+ghost use Rattle.server.specs.Seats.{seat_of, seats_in, bounded};
+ghost use Rattle.server.specs.Servers.{seats, history_of, highest_free, site_count};
 
-use crate::server::SITES;
+use crate::server::{SITES, Server};
 use crate::session::Session;
 use operation::entry::Entry;
-use operation::operation::Operation;
 use std::alloc::{AllocError, Global};
 
 // Every site is free.
 pub(crate) fn free_sessions(heap: Global) -> Result<Vec<Session>, AllocError>
-    ensures { IfOk result (λ v. (vec_len v ≡ 16) × ((i : ℕ) → seats_in v.items i ≡ free)) }
+    ensures { IfOk result (λ v. (vec_len v ≡ 16) × All (λ s. seat_of s ≡ free) v.items) }
 {
-    let mut sessions = Vec::with_capacity(heap, SITES)?;
-    for _i in 0..SITES {
-        let session = Session::new(heap)?;
-        sessions.push_reserved(session);
-    }
-    Ok(sessions)
+    (0..SITES).map(|_| Session::new(heap)).try_collect(heap)
 }
 
 // Ends every connection.
+#[tactic(auto, using(crate::proofs::Seats::all_free))]
 pub(crate) fn close_all(sessions: &mut [Session])
     ensures { (i : ℕ) → seats_in sessions.new i ≡ free }
 {
@@ -32,42 +27,31 @@ pub(crate) fn close_all(sessions: &mut [Session])
 }
 
 // Tells every client but that of site `from` of an entry.
+#[tactic(auto, using(crate::proofs::Told::told_all))]
 pub(crate) fn announce(sessions: &mut [Session], from: usize, entry: Entry)
     ensures { (i : ℕ) → seats_in sessions.new i ≡ (if nat_eq i from then seats_in sessions.old i else bounded (told entry (seats_in sessions.old i))) }
 {
-    for i in 0..sessions.len() {
+    for (i, session) in sessions.iter_mut().enumerate() {
         if i != from {
-            sessions[i].tell(entry);
+            session.tell(entry);
         }
     }
 }
 
-// The highest site that is free.
-pub(crate) fn highest_free(sessions: &[Session]) -> Option<u8>
-    requires { length sessions.now ≤ 16 }
-    ensures site { result ≡ highest_free (length sessions.now) (seats_in sessions.now) }
-    ensures below { IfSome result (λ i. i < length sessions.now) }
-{
-    let mut end = sessions.len();
-    while end > 0 {
-        end -= 1;
-        if !sessions[end].connected {
-            return Some(end as u8);
-        }
+impl Server {
+    // The highest site that is free.
+    pub(crate) fn highest_free(&self) -> Option<u8>
+        ensures { result ≡ highest_free 16 (seats self.now) }
+    {
+        (0..SITES as u8)
+            .rev()
+            .find(|&site| !self.is_connected(site))
     }
-    None
-}
 
-// How many of the operations are of the site.
-pub(crate) fn count_by(history: &[Operation], site: u8) -> u32
-    requires { length history.now < 2 ^ 32 }
-    ensures { result ≡ site_count site history.now }
-{
-    let mut count = 0;
-    for op in history {
-        if op.site() == site {
-            count += 1;
-        }
+    // How many operations of the history are of the site.
+    pub(crate) fn count_by(&self, site: u8) -> u32
+        ensures { result ≡ site_count site (history_of self.now) }
+    {
+        self.history.iter().filter(|op| op.site() == site).count() as u32
     }
-    count
 }

@@ -6,12 +6,11 @@ use operation::entry::Entry;
 // How many entries a client may have before it that it has not seen.
 pub const CONCURRENT_CAPACITY: usize = 4096;
 
-// Whether the site has a client, the highest revision that the client has said, and the entries that it is not known to have seen.
+// The highest revision that the site's client has said, none if the site has no client, and the entries that the client is not known to have seen.
 // The list has its memory from the start, so that a push needs none.
 #[derive(Drop)]
 pub struct Session {
-    pub(crate) connected: bool,
-    pub(crate) said: u32,
+    pub(crate) said: Option<u32>,
     pub(crate) list: Vec<Entry>,
     ghost few: { vec_len list ≤ 4096 },
     ghost room: { 4096 ≤ vec_capacity list },

@@ -1,5 +1,5 @@
 // What a client's calls do to what the server has of it.
-ghost use Rattle.std.specs.Prelude.{◌≡◌, [], IfOk};
+ghost use Rattle.std.specs.Prelude.{◌≡◌, true, [], IfOk, is_some, unwrap_or};
 ghost use Rattle.operation.specs.Entries.{operations};
 ghost use Rattle.operation.specs.Transform.{transformed, through};
 ghost use Rattle.text.specs.Coded.{coded};
@@ -19,19 +19,21 @@ impl Session {
         ensures { IfOk result (λ s. seat_of s ≡ free) }
     {
         let list = Vec::with_capacity(heap, CONCURRENT_CAPACITY)?;
-        Ok(Session {
-            connected: false,
-            said: 0,
-            list,
-        })
+        Ok(Session { said: None, list })
+    }
+
+    // Has the site a client?
+    fn is_connected(&self) -> bool
+        ensures { result ≡ (seat_of self.now).connected }
+    {
+        self.said.is_some()
     }
 
     // Nothing is left of what the client had not seen.
-    fn reset(&mut self, connected: bool, said: u32)
-        ensures { seat_of self.new ≡ record { connected = connected; said = said; concurrent = [] } }
+    fn reset(&mut self, said: Option<u32>)
+        ensures { seat_of self.new ≡ record { connected = is_some said; said = unwrap_or said 0; concurrent = [] } }
     {
         self.list.clear();
-        self.connected = connected;
         self.said = said;
     }
 
@@ -39,23 +41,24 @@ impl Session {
     pub(crate) fn open(&mut self, revision: u32)
         ensures { seat_of self.new ≡ joined_at revision }
     {
-        self.reset(true, revision);
+        self.reset(Some(revision));
     }
 
     // The connection is ended.
     pub(crate) fn close(&mut self)
         ensures { seat_of self.new ≡ free }
     {
-        self.reset(false, 0);
+        self.reset(None);
     }
 
     // The client has seen what is below `revision`.
     pub(crate) fn hear(&mut self, revision: u32)
+        requires { (seat_of self.old).connected ≡ true }
         ensures { seat_of self.new ≡ heard revision (seat_of self.old) }
     {
         let kept = keep_unseen(self.list.as_mut_slice(), revision);
         self.list.truncate(kept);
-        self.said = revision;
+        self.said = Some(revision);
     }
 
     // An operation of the client goes past what it had not seen, and this past the operation. The answer is what the operation has become.
@@ -68,6 +71,7 @@ impl Session {
 
     // The client sends an operation that it made at a revision. The answer is what the operation has become.
     pub(crate) fn receive(&mut self, submission: Submission) -> Operation
+        requires { (seat_of self.old).connected ≡ true }
         ensures one { result ≡ (arrival coded submission (seat_of self.old)).one }
         ensures seat { seat_of self.new ≡ sender coded submission (seat_of self.old) }
     {
@@ -79,7 +83,7 @@ impl Session {
     pub(crate) fn tell(&mut self, entry: Entry)
         ensures { seat_of self.new ≡ bounded (told entry (seat_of self.old)) }
     {
-        if !self.connected {
+        if !self.is_connected() {
             return;
         }
         if self.list.len() >= CONCURRENT_CAPACITY {

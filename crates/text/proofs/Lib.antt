@@ -1,2 +1,3 @@
 pub mod Moves
 pub mod Pairs
+pub mod Views

@@ -3,8 +3,7 @@ use Rattle.std.proofs.Common.{◌≡◌, ℕ, zero, suc, ◌+◌, ◌-◌, ◌<�
 use borrow.Rule.Slice.PartMut.{put_mid}
 use lib.Seq.{paste}
 use Rattle.std.proofs.lemmas.List.{drop_all, take_all, append-nil, append_assoc, take_at, take-take, length-take-le, length-drop, length-append, drop-drop}
-use Rattle.std.proofs.lemmas.Slice.{take-put_mid, between_is}
-use Rattle.std.proofs.lemmas.List.Edits.{length-between}
+use Rattle.std.proofs.lemmas.Slice.{between_is}
 use Rattle.operation.specs.Edits.{insert_at, delete_at}
 
 module _ {X : Type 0} where
@@ -32,43 +31,36 @@ module _ {X : Type 0} where
   delete_at-is zero (l ∷ t) h = refl
   delete_at-is (suc p) (l ∷ t) h = ap (◌∷◌ l) (delete_at-is p t (omega arith))
 
-  -- the part from p on, moved up, back in its list: an insertion into the first n
-  pub part_up : (s q : List X) (n p : ℕ) (x : X) → p ≤ n → n < length s →
-      q ≡ x ∷ take (length (take (n + 1 - p) (drop p s)) - 1) (take (n + 1 - p) (drop p s)) →
-      take (n + 1) (put_mid p (n + 1 - p) s q) ≡ insert_at p x (take n s)
-  part_up s q n p x h l e =
-      let m : length (take (n + 1 - p) (drop p s)) - 1 ≡ n - p = omega (arith, length-between s p (n + 1) (omega arith)) in
-      let part : q ≡ x ∷ take (n - p) (drop p s) =
-      e ∙ ap (λ k. x ∷ take k (take (n + 1 - p) (drop p s))) m ∙ ap (◌∷◌ x) (take-take (n - p) (n + 1 - p) (drop p s) (omega arith)) in
-      let long : n + 1 ≡ p + length q = omega (arith, ap length part, length-between s p n (omega arith)) in
+  -- the part from p on, moved up, back in its list: an insertion, and the last is gone
+  pub part_up : (s q : List X) (p : ℕ) (x : X) → p < length s →
+      q ≡ x ∷ take (length (take (length s - p) (drop p s)) - 1) (take (length s - p) (drop p s)) →
+      put_mid p (length s - p) s q ≡ insert_at p x (take (length s - 1) s)
+  part_up s q p x h e =
+      let n : ℕ = length s - 1 in
+      let long = length-drop p s in
+      let all : take (length s - p) (drop p s) ≡ drop p s = take_all (length s - p) (drop p s) (omega arith) in
+      let m : length (take (length s - p) (drop p s)) - 1 ≡ n - p = omega (arith, ap length all) in
+      let part : q ≡ x ∷ take (n - p) (drop p s) = e ∙ ap₂ (λ k z. x ∷ take k z) m all in
       let first = length-take-le n s (omega arith) in
-      take-put_mid p (n + 1 - p) s q (n + 1) long (omega arith) ∙ ap (λ z. take p s ++ z) part
-      ∙ sym (insert_at-is p x (take n s) (omega arith) ∙ ap (λ z. z ++ x ∷ drop p (take n s)) (take-take p n s h)
+      ap₂ (λ a b. take p s ++ (a ++ b)) part (drop_all (length s - p) (drop p s) (omega arith))
+      ∙ ap (λ z. take p s ++ z) (append-nil (x ∷ take (n - p) (drop p s)))
+      ∙ sym (insert_at-is p x (take n s) (omega arith) ∙ ap (λ z. z ++ x ∷ drop p (take n s)) (take-take p n s (omega arith))
       ∙ ap (λ z. take p s ++ x ∷ z) (sym (between_is s p n)))
 
-  -- the part from p on, moved down, back in its list: a deletion from the first n
-  pub part_down : (s q : List X) (n p : ℕ) → p < n → n ≤ length s →
-      q ≡ drop 1 (take (n - p) (drop p s)) ++ drop (length (take (n - p) (drop p s)) - 1) (take (n - p) (drop p s)) →
-      take (n - 1) (put_mid p (n - p) s q) ≡ delete_at p (take n s)
-  part_down s q n p h l e =
-      let rest : List X = drop 1 (take (n - p) (drop p s)) in
-      let last : List X = drop (length (take (n - p) (drop p s)) - 1) (take (n - p) (drop p s)) in
-      let post : List X = drop (n - p) (drop p s) in
-      let parts : put_mid p (n - p) s q ≡ (take p s ++ rest) ++ (last ++ post) =
+  -- the part from p on, moved down, back in its list: a deletion, and one more at the end
+  pub part_down : (s q : List X) (p : ℕ) → p < length s →
+      q ≡ drop 1 (take (length s - p) (drop p s)) ++ drop (length (take (length s - p) (drop p s)) - 1) (take (length s - p) (drop p s)) →
+      take (length s - 1) (put_mid p (length s - p) s q) ≡ delete_at p s
+  part_down s q p h e =
+      let rest : List X = drop 1 (take (length s - p) (drop p s)) in
+      let last : List X = drop (length (take (length s - p) (drop p s)) - 1) (take (length s - p) (drop p s)) in
+      let post : List X = drop (length s - p) (drop p s) in
+      let parts : put_mid p (length s - p) s q ≡ (take p s ++ rest) ++ (last ++ post) =
       ap (λ z. take p s ++ (z ++ post)) e ∙ ap (λ z. take p s ++ z) (append_assoc rest last post) ∙ sym (append_assoc (take p s) rest (last ++ post)) in
-      let long : length (take p s ++ rest) ≡ n - 1 =
-      omega (arith, length-append (take p s) rest, length-take-le p s (omega arith), length-drop 1 (take (n - p) (drop p s)), length-between s p n l) in
-      let first = length-take-le n s l in
+      let all : take (length s - p) (drop p s) ≡ drop p s = take_all (length s - p) (drop p s) (omega (arith, length-drop p s)) in
       let next : p + 1 ≡ suc p = omega arith in
-      ap (take (n - 1)) parts ∙ take_at (take p s ++ rest) (last ++ post) (n - 1) long
-      ∙ sym (delete_at-is p (take n s) (omega arith) ∙ ap (λ z. z ++ drop (suc p) (take n s)) (take-take p n s (omega arith))
-      ∙ ap (λ z. take p s ++ z) (ap (λ z. drop z (take n s)) (sym next) ∙ sym (drop-drop 1 p (take n s)) ∙ ap (drop 1) (sym (between_is s p n))))
-
-  -- n of one list over the front of another
-  pub front_filled : (n : ℕ) (q xs ys zs : List X) → q ≡ take (n - 0) zs → zs ≡ xs → n ≤ length xs → n ≤ length ys →
-      (length (q ++ drop (n - 0) ys) ≡ length ys) × (take n (q ++ drop (n - 0) ys) ≡ take n xs)
-  front_filled n q xs ys zs e f h k =
-      let z : n - 0 ≡ n = omega arith in
-      let front : q ≡ take n xs = e ∙ ap₂ take z f in
-      let long : length q ≡ n = ap length front ∙ length-take-le n xs h in
-      (omega (arith, length-append q (drop (n - 0) ys), length-drop (n - 0) ys), take_at q (drop (n - 0) ys) n long ∙ front)
+      let behind : rest ≡ drop (suc p) s = ap (drop 1) all ∙ drop-drop 1 p s ∙ ap (λ k. drop k s) next in
+      let long : length (take p s ++ rest) ≡ length s - 1 =
+      omega (arith, length-append (take p s) rest, length-take-le p s (omega arith), ap length behind, length-drop (suc p) s) in
+      ap (take (length s - 1)) parts ∙ take_at (take p s ++ rest) (last ++ post) (length s - 1) long
+      ∙ ap (λ z. take p s ++ z) behind ∙ sym (delete_at-is p s h)

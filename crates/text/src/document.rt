@@ -1,13 +1,14 @@
 // A text in memory of its own. To edit it, it lends its letters and sites.
-ghost use Rattle.std.specs.Prelude.{◌≡◌, ◌<◌, ◌≤◌, min, [], length, IfOk};
+ghost use Rattle.std.specs.Prelude.{◌≡◌, ◌<◌, ◌≤◌, min, [], length, IfOk, IsOk};
 ghost use Rattle.operation.specs.Edits.{insert_at, delete_at};
-ghost use Rattle.text.specs.Texts.{numbers, authors, refusal_at, refusal, refused, applied};
-ghost use Rattle.text.specs.Documents.{text_of, room_of, copied, copy_refusal};
+ghost use Rattle.text.specs.Texts.{numbers, authors, refusal_at, refusal, refused};
+ghost use Rattle.text.specs.Documents.{with_letters, changed, copied, copy_refusal};
 
 use crate::lent;
 use crate::refusal::Refusal;
 use operation::operation::Operation;
 use std::alloc::{AllocError, Global};
+use std::marker::Model;
 
 // The highest number of a letter; the lowest is 1.
 pub const HIGHEST_LETTER: u32 = 1_114_111;
@@ -42,88 +43,97 @@ fn check(op: Operation, len: usize, room: usize) -> Result<(), Refusal>
     }
 }
 
-// The text is the first `len` letters of the memory, or all if it has fewer.
+// The letters and the site of each are two vectors, since the letters are lent as a slice of 32-bit numbers. Both have memory for
+// `room` letters, so that an insertion needs none.
 #[derive(Drop)]
 pub struct Document {
     letters: Vec<u32>,
     sites: Vec<u8>,
-    len: usize,
+    room: usize,
+}
+
+impl Model for Document {
+    ghost use Rattle.std.specs.Prelude.{length, vec_capacity};
+    ghost use Rattle.text.specs.Texts.{paired};
+    ghost use Rattle.text.specs.Documents.{TextState, Fills};
+
+    ghost Value = { TextState };
+
+    ghost view = { λ d. record { letters = paired d.letters.items d.sites.items; room = d.room } };
+
+    ghost invariant = { λ d. Fills d.room (length d.letters.items) (length d.sites.items) (vec_capacity d.letters) (vec_capacity d.sites) };
 }
 
 impl Document {
     // An empty text with room for `capacity` letters.
+    #[tactic(auto, unfolding(crate::specs::Texts::paired))]
     pub fn with_capacity(heap: Global, capacity: usize) -> Result<Document, AllocError>
-        ensures { IfOk result (λ d. (text_of d ≡ []) × (room_of d ≡ capacity)) }
+        ensures { IfOk result (λ d. d ≡ record { letters = []; room = capacity }) }
     {
-        let letters = vec![in heap; 0u32; capacity]?;
-        let sites = vec![in heap; 0u8; capacity]?;
         Ok(Document {
-            letters,
-            sites,
-            len: 0,
+            letters: Vec::with_capacity(heap, capacity)?,
+            sites: Vec::with_capacity(heap, capacity)?,
+            room: capacity,
         })
     }
 
     // How many letters it has room for.
     pub fn capacity(&self) -> usize
-        ensures { result ≡ room_of self.now }
+        ensures { result ≡ self.now.room }
     {
-        self.letters.len().min(self.sites.len())
+        self.room
     }
 
+    #[tactic(auto, using(crate::proofs::Views::sizes))]
     pub fn len(&self) -> usize
-        ensures { result ≡ length (text_of self.now) }
+        ensures { result ≡ length self.now.letters }
     {
-        self.len.min(self.capacity())
+        self.letters.len()
     }
 
     // Why the operation is refused in a text that may have up to `limit` letters, if it is.
     pub fn check(&self, op: Operation, limit: usize) -> Result<(), Refusal>
-        ensures { refused result ≡ refusal (min (room_of self.now) limit) op (text_of self.now) }
+        ensures { refused result ≡ refusal (min self.now.room limit) op self.now.letters }
     {
         check(op, self.len(), self.capacity().min(limit))
     }
 
     // Puts a letter in before the one at `place`, or at the end.
     fn insert(&mut self, place: usize, letter: u32, site: u8)
-        requires within { place ≤ length (text_of self.old) }
-        requires has_room { length (text_of self.old) < room_of self.old }
-        ensures text { text_of self.new ≡ insert_at place (record { number = letter; site = site }) (text_of self.old) }
-        ensures room { room_of self.new ≡ room_of self.old }
+        requires within { place ≤ length self.old.letters }
+        requires has_room { length self.old.letters < self.old.room }
+        ensures { self.new ≡ with_letters (insert_at place (record { number = letter; site = site }) self.old.letters) self.old }
     {
-        let len = self.len();
+        self.letters.push_reserved(letter);
+        self.sites.push_reserved(site);
         lent::insert(
             self.letters.as_mut_slice(),
             self.sites.as_mut_slice(),
-            len,
             place,
             letter,
             site,
         );
-        self.len = len + 1;
     }
 
     // Takes the letter at `place` away.
     fn delete(&mut self, place: usize)
-        requires { place < length (text_of self.old) }
-        ensures text { text_of self.new ≡ delete_at place (text_of self.old) }
-        ensures room { room_of self.new ≡ room_of self.old }
+        requires { place < length self.old.letters }
+        ensures { self.new ≡ with_letters (delete_at place self.old.letters) self.old }
     {
-        let len = self.len();
+        let left = self.len() - 1;
         lent::delete(
             self.letters.as_mut_slice(),
             self.sites.as_mut_slice(),
-            len,
             place,
         );
-        self.len = len - 1;
+        self.letters.truncate(left);
+        self.sites.truncate(left);
     }
 
     // Does the operation to a text that may have up to `limit` letters, or refuses it and changes nothing.
     pub fn apply(&mut self, op: Operation, limit: usize) -> Result<(), Refusal>
-        ensures answer { refused result ≡ refusal (min (room_of self.old) limit) op (text_of self.old) }
-        ensures text { text_of self.new ≡ applied (min (room_of self.old) limit) op (text_of self.old) }
-        ensures room { room_of self.new ≡ room_of self.old }
+        ensures answer { refused result ≡ refusal (min self.old.room limit) op self.old.letters }
+        ensures text { self.new ≡ changed limit op self.old }
     {
         self.check(op, limit)?;
         match op {
@@ -138,42 +148,42 @@ impl Document {
         Ok(())
     }
 
+    #[tactic(auto, unfolding(crate::specs::Texts::paired))]
     pub fn clear(&mut self)
-        ensures text { text_of self.new ≡ [] }
-        ensures room { room_of self.new ≡ room_of self.old }
+        ensures { self.new ≡ with_letters [] self.old }
     {
-        self.len = 0;
+        self.letters.clear();
+        self.sites.clear();
     }
 
     // The letters' numbers, in order.
     pub fn letters(&self) -> &[u32]
-        ensures { result.now ≡ numbers (text_of self.now) }
+        ensures { result.now ≡ numbers self.now.letters }
     {
-        let len = self.len();
-        &self.letters[0..len]
+        self.letters.as_slice()
     }
 
     // The site of each letter, in the same order.
     pub fn sites(&self) -> &[u8]
-        ensures { result.now ≡ authors (text_of self.now) }
+        ensures { result.now ≡ authors self.now.letters }
     {
-        let len = self.len();
-        &self.sites[0..len]
+        self.sites.as_slice()
     }
 
-    // Takes over the other's text, or refuses it where there is no room, and changes nothing.
+    // Takes over the other's text, or refuses it where there is no room, and changes nothing. Where there is as much room as in the
+    // other it is never refused.
     pub fn copy_from(&mut self, other: &Document) -> Result<(), Refusal>
-        ensures answer { refused result ≡ copy_refusal (room_of self.old) (text_of other.now) }
-        ensures text { text_of self.new ≡ copied (room_of self.old) (text_of other.now) (text_of self.old) }
-        ensures room { room_of self.new ≡ room_of self.old }
+        ensures answer { refused result ≡ copy_refusal self.old.room other.now.letters }
+        ensures text { self.new ≡ with_letters (copied self.old.room other.now.letters self.old.letters) self.old }
+        ensures fits { other.now.room ≤ self.old.room → IsOk result }
     {
-        let len = other.len();
-        if len > self.capacity() {
+        if other.letters.len() > self.capacity() {
             return Err(Refusal::TextFull);
         }
-        self.letters[0..len].copy_from_slice(&other.letters[0..len]);
-        self.sites[0..len].copy_from_slice(&other.sites[0..len]);
-        self.len = len;
+        self.clear();
+        // The memory is there, so neither fails.
+        let _ = self.letters.extend_from_slice(other.letters.as_slice());
+        let _ = self.sites.extend_from_slice(other.sites.as_slice());
         Ok(())
     }
 }

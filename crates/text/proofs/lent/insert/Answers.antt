@@ -1,4 +1,5 @@
-use Rattle.std.proofs.Common.{arith}
+use Rattle.std.proofs.Common.{◌-◌, length, take, ap, ◌∙◌, arith}
+use Rattle.operation.specs.Edits.{insert_at}
 use Rattle.text.proofs.Moves.{part_up}
 use Rattle.text.proofs.Pairs.{pairs-inserted}
 use Rattle.text.proofs.lent.insert.Goals as goal
@@ -7,6 +8,8 @@ pub returns : goal.returns
 returns c =
     let xs = c.args.letters.now in
     let ss = c.args.sites.now in
-    pairs-inserted c.args.len xs ss _ _ c.args.place c.args.letter c.args.site (omega arith) (omega arith) (omega arith)
-    (part_up xs c.shift_up.new.part c.args.len c.args.place c.args.letter (omega arith) (omega arith) c.shift_up.ensures)
-    (part_up ss c.shift_up-2.new.part c.args.len c.args.place c.args.site (omega arith) (omega arith) c.shift_up-2.ensures)
+    let p = c.args.place in
+    pairs-inserted (length xs - 1) xs ss _ _ p c.args.letter c.args.site (omega arith) (omega arith) (omega arith)
+    (part_up xs c.shift_up.new.part p c.args.letter (omega arith) c.shift_up.ensures)
+    (part_up ss c.shift_up-2.new.part p c.args.site (omega arith) c.shift_up-2.ensures
+    ∙ ap (λ n. insert_at p c.args.site (take (n - 1) ss)) c.requires.level)

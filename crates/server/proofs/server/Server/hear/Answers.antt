@@ -1,37 +1,20 @@
-use Rattle.std.proofs.Common.{true, false, vec_items, sym, refl, ap, ◌∙◌, arith}
-use Rattle.server.specs.Sessions.{heard}
-use Rattle.server.specs.Servers.{seats_in, state_of}
-use Rattle.server.proofs.Seats.{site_below, seat_at, seat_set}
-use Rattle.server.proofs.Takes.{answer_heard, after_heard}
+use Rattle.std.proofs.lemmas.Bool.{cond-true}
+use Rattle.std.proofs.Common.{cond, refl, vec_items, sym, ap, ◌∙◌, arith}
+use Rattle.server.specs.Sessions.{free, heard}
+use Rattle.server.specs.Servers.{state_of, seats_in, with_seat}
+use Rattle.server.proofs.Seats.{seat_written, seat_at, seat_connected}
 use Rattle.server.proofs.server.Server.hear.Goals as goal
 
-pub is_bad-requires : goal.is_bad-requires
-is_bad-requires c = site_below c.args.self.now c.args.site _ c.is_connected.ensures c.if-not-is_connected.false
-
-pub index_mut-requires : goal.index_mut-requires
-index_mut-requires c = let l = site_below c.args.self.now c.args.site _ c.is_connected.ensures c.if-not-is_connected.false in omega arith
-
-pub returns-then-is_bad : goal.returns-then-is_bad
-returns-then-is_bad c =
-    let yes = sym c.is_connected.ensures ∙ c.if-not-is_connected.false in
-    let bad = sym c.is_bad.ensures ∙ c.if-is_bad.true in
-    record {
-      answer = λ t. answer_heard c.args.site c.args.revision (state_of c.args.self.now t) yes true bad;
-      after = λ t. after_heard c.args.site c.args.revision (state_of c.args.self.now t) yes true bad _ (c.end.ensures t);
-    }
-
-pub returns : goal.returns
-returns c =
+pub returns-clause-after : goal.returns-clause-after
+returns-clause-after c =
     let ss = vec_items c.args.self.now.sessions in
-    let l = site_below c.args.self.now c.args.site _ c.is_connected.ensures c.if-not-is_connected.false in
+    let v = state_of c.args.self.now in
     let yes = sym c.is_connected.ensures ∙ c.if-not-is_connected.false in
     let good = sym c.is_bad.ensures ∙ c.if-is_bad.false in
-    let seat = c.hear.ensures ∙ sym (ap (heard c.args.revision) (seat_at ss c.args.site c.index_mut.result.now (omega arith) c.index_mut.ensures.value)) in
+    let l = seat_connected ss c.args.site yes in
+    let seat = c.hear.ensures ∙ ap (heard c.args.revision) (sym (seat_at ss c.from.result c.index_mut.result.now (omega arith) c.index_mut.ensures.value) ∙ ap (seats_in ss) c.from.ensures) in
+    let state = seat_written c.args.self.now.text.letters (vec_items c.args.self.now.history) ss c.from.result c.args.site c.hear.new.self _ c.from.ensures (omega arith) seat in
     record {
-      answer = λ t. answer_heard c.args.site c.args.revision (state_of c.args.self.now t) yes false good;
-      after = λ t. after_heard c.args.site c.args.revision (state_of c.args.self.now t) yes false good _ (record {
-        text = refl;
-        history = refl;
-        seats = seat_set ss c.args.site c.hear.new.self (heard c.args.revision (seats_in ss c.args.site)) (omega arith) seat;
-      });
+      state = state ∙ sym (cond-true _ _ v yes ∙ ap (λ b. with_seat c.args.site (cond b free (heard c.args.revision (v.seats c.args.site))) v) good);
+      room = refl;
     }

@@ -1,21 +1,19 @@
-use Rattle.std.proofs.Common.{length, vec_items, refl, ap, ◌∙◌, arith}
+use Rattle.std.proofs.Common.{refl, vec_items, ap, ◌∙◌, arith}
 use Rattle.server.specs.Sessions.{joined_at}
-use Rattle.server.specs.Servers.{site_count}
-use Rattle.server.proofs.Seats.{seat_set}
+use Rattle.server.specs.Servers.{seats, state_of, join_after}
+use Rattle.server.proofs.FreeSites.{chosen_below}
+use Rattle.server.proofs.Seats.{seat_written}
 use Rattle.server.proofs.server.Server.join.Goals as goal
 
-pub returns : goal.returns
-returns c =
-    let site = c.in-Some.ensures.site in
-    let below = c.in-Some.ensures.below in
-    let n = c.revision-revision.ensures in
-    let count = c.count_by-count.ensures ∙ ap (site_count c.in-Some.site) c.as_slice.ensures.value in
+pub index_mut-requires : goal.index_mut-requires
+index_mut-requires c = let l = chosen_below (seats c.args.self.now) c.args.wanted c.in-Some.site c.in-Some.ensures in omega arith
+
+pub returns-clause-after : goal.returns-clause-after
+returns-clause-after c =
+    let l = chosen_below (seats c.args.self.now) c.args.wanted c.in-Some.site c.in-Some.ensures in
     record {
-      answer = λ t. rw (← site) (rw (n, count) refl);
-      after = λ t. rw (← site) (record {
-        text = refl;
-        history = refl;
-        seats = seat_set (vec_items c.args.self.now.sessions) c.in-Some.site c.open.new.self (joined_at (length (vec_items c.args.self.now.history))) (omega arith)
-            (c.open.ensures ∙ ap joined_at n);
-      });
+      state =
+          seat_written _ _ (vec_items c.args.self.now.sessions) _ _ c.open.new.self _ c.from.ensures (omega arith) (c.open.ensures ∙ ap joined_at c.revision-revision.ensures)
+          ∙ ap (λ o. join_after o (state_of c.args.self.now)) c.in-Some.ensures;
+      room = refl;
     }

@@ -1,32 +1,47 @@
-use Rattle.std.proofs.Common.{length, take, vec_items, refl, ap, ◌∙◌, arith}
-use Rattle.std.proofs.lemmas.List.{with_items_is}
+use Rattle.std.proofs.Common.{rules, ◌≡◌, ◌<◌, ◌≤◌, [], length, ap, ◌∙◌, ap₂, arith}
+use Rattle.std.proofs.lemmas.List.{nil_from_length}
 use Rattle.std.proofs.lemmas.Bool.{le-leb}
-use Rattle.text.proofs.Moves.{front_filled}
-use Rattle.text.proofs.Pairs.{length-contents, contents-copied}
-use Rattle.text.specs.Documents.{text_of, room_of}
+use Rattle.text.specs.Texts.{paired}
+use Rattle.text.specs.Documents.{TextState, with_letters}
+use Rattle.text.proofs.Views.{sizes}
 use Rattle.text.proofs.document.Document.copy_from.Goals as goal
 
-pub slice_bounds-copy_from_slice-end-2 : goal.slice_bounds-copy_from_slice-end-2
-slice_bounds-copy_from_slice-end-2 c =
-    let d = c.args.other.now in
-    omega (arith, length-contents d.len (vec_items d.letters) (vec_items d.sites))
+pub returns-then-len-capacity-clause-answer : goal.returns-then-len-capacity-clause-answer
+returns-then-len-capacity-clause-answer c =
+    let o = sizes c.other.inside c.args.other.now c.other.view_is c.other.invariant in
+    let h : c.args.self.now.room < length c.args.other.now.letters = omega arith in
+    search rules
 
-pub slice_bounds-copy_from_slice-end-4 : goal.slice_bounds-copy_from_slice-end-4
-slice_bounds-copy_from_slice-end-4 c =
-    let d = c.args.other.now in
-    omega (arith, length-contents d.len (vec_items d.letters) (vec_items d.sites))
+pub returns-then-len-capacity-clause-text : goal.returns-then-len-capacity-clause-text
+returns-then-len-capacity-clause-text c =
+    let o = sizes c.other.inside c.args.other.now c.other.view_is c.other.invariant in
+    let h : c.args.self.now.room < length c.args.other.now.letters = omega arith in
+    search rules
 
-pub returns : goal.returns
-returns c =
-    let d = c.args.other.now in
-    let s = c.args.self.now in
-    let n = c.len-len.result in
-    let l = length-contents d.len (vec_items d.letters) (vec_items d.sites) in
-    let a = front_filled n c.copy_from_slice.new.self (vec_items d.letters) c.deref_mut.result.now _ c.copy_from_slice.ensures.after c.deref.ensures.value (omega arith) (omega arith) in
-    let b = front_filled n c.copy_from_slice-2.new.self (vec_items d.sites) c.deref_mut-2.result.now _ c.copy_from_slice-2.ensures.after c.deref-2.ensures.value (omega arith) (omega arith) in
-    rw (le-leb (length (text_of d)) (room_of s) (omega arith)) (record {
-      answer = refl;
-      text = contents-copied d.len n (vec_items d.letters) (vec_items d.sites) c.len-len.ensures _ _
-          (ap (take n) (with_items_is s.letters _ (omega (arith, a.0))) ∙ a.1) (ap (take n) (with_items_is s.sites _ (omega (arith, b.0))) ∙ b.1);
-      room = refl;
-    })
+pub invariant_of-self : goal.invariant_of-self
+invariant_of-self c =
+    let s = sizes c.self.inside c.clear.new.self c.self.view_is c.self.invariant in
+    let o = sizes c.other.inside c.args.other.now c.other.view_is c.other.invariant in
+    let room = ap (λ (t : TextState). t.room) c.clear.ensures in
+    let none = ap (λ (t : TextState). length t.letters) c.clear.ensures in
+    search rules
+
+pub returns-clause-answer : goal.returns-clause-answer
+returns-clause-answer c =
+    let o = sizes c.other.inside c.args.other.now c.other.view_is c.other.invariant in
+    let h : length c.args.other.now.letters ≤ c.args.self.now.room = omega arith in
+    search rules
+
+pub returns-clause-text : goal.returns-clause-text
+returns-clause-text c =
+    let s = sizes c.self.inside c.clear.new.self c.self.view_is c.self.invariant in
+    let o = sizes c.other.inside c.args.other.now c.other.view_is c.other.invariant in
+    let none = ap (λ (t : TextState). length t.letters) c.clear.ensures in
+    let room = ap (λ (t : TextState). t.room) c.clear.ensures in
+    let no_letters : c.self.inside.letters.items ≡ [] = nil_from_length _ (omega arith) in
+    let no_sites : c.self.inside.sites.items ≡ [] = nil_from_length _ (omega arith) in
+    let xs : c.extend_from_slice.new.self.items ≡ c.other.inside.letters.items = search rules in
+    let ss : c.extend_from_slice-2.new.self.items ≡ c.other.inside.sites.items = search rules in
+    rw (le-leb (length c.args.other.now.letters) c.args.self.now.room (omega arith))
+    (ap₂ (λ ys rs. record { letters = paired ys rs; room = c.self.inside.room }) xs ss
+    ∙ ap₂ (λ (o t : TextState). with_letters o.letters t) c.other.view_is (c.self.view_is ∙ c.clear.ensures))

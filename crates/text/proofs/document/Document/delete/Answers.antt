@@ -1,23 +1,26 @@
-use Rattle.std.proofs.Common.{◌-◌, take, vec_items, refl, ap, ◌∙◌, ap₂, arith}
+use Rattle.std.proofs.Common.{◌≡◌, ◌-◌, length, take, sym, ap, ◌∙◌, ap₂, arith}
 use Rattle.std.proofs.lemmas.List.{with_items_is}
 use Rattle.operation.specs.Edits.{delete_at}
 use Rattle.text.specs.Texts.{paired}
-use Rattle.text.proofs.Pairs.{length-contents, take-length}
+use Rattle.text.specs.Documents.{TextState, with_letters}
+use Rattle.text.proofs.Pairs.{take-paired}
+use Rattle.text.proofs.Views.{sizes}
 use Rattle.text.proofs.document.Document.delete.Goals as goal
 
-pub delete-requires : goal.delete-requires
-delete-requires c =
-    let d = c.args.self.now in
-    let l = length-contents d.len (vec_items d.letters) (vec_items d.sites) in
-    record { within = omega arith; letters_room = omega arith; sites_room = omega arith }
+pub delete-requires-clause-within : goal.delete-requires-clause-within
+delete-requires-clause-within c = let s = sizes c.self.inside c.args.self.now c.self.view_is c.self.invariant in omega arith
 
 pub returns : goal.returns
 returns c =
-    let d = c.args.self.now in
-    let n = c.len-len.result in
-    record {
-      text = ap₂ (λ ys rs. take (n - 1) (paired ys rs)) (with_items_is d.letters c.delete.new.letters (omega arith)) (with_items_is d.sites c.delete.new.sites (omega arith))
-          ∙ c.delete.ensures ∙ ap₂ (λ ys rs. delete_at c.args.place (take n (paired ys rs))) c.as_mut_slice.ensures.value c.as_mut_slice-2.ensures.value
-          ∙ ap (delete_at c.args.place) (ap (λ k. take k (paired (vec_items d.letters) (vec_items d.sites))) c.len-len.ensures ∙ take-length d.len (paired (vec_items d.letters) (vec_items d.sites)));
-      room = refl;
-    }
+    let p = c.args.place in
+    let d = c.self.inside in
+    let n = length c.as_mut_slice.result.now - 1 in
+    let s = sizes c.self.inside c.args.self.now c.self.view_is c.self.invariant in
+    let left : c.len-left.result - 1 ≡ n = omega arith in
+    ap₂ (λ ys rs. record { letters = paired ys rs; room = d.room })
+    (c.truncate.ensures.items ∙ ap₂ take left (with_items_is d.letters c.delete.new.letters (omega arith)))
+    (c.truncate-2.ensures.items ∙ ap₂ take left (with_items_is d.sites c.delete.new.sites (omega arith)))
+    ∙ ap (λ ls. record { letters = ls; room = d.room })
+    (sym (take-paired n c.delete.new.letters c.delete.new.sites) ∙ c.delete.ensures
+    ∙ ap₂ (λ xs ss. delete_at p (paired xs ss)) c.as_mut_slice.ensures.value c.as_mut_slice-2.ensures.value)
+    ∙ ap (λ (t : TextState). with_letters (delete_at p t.letters) t) c.self.view_is

@@ -1,14 +1,8 @@
-use Rattle.std.proofs.Common.{vec_items, arith}
-use native.Mathlib.Nat.{sub-zero}
-use Rattle.text.proofs.Pairs.{length-contents, contents-numbers}
+use Rattle.std.proofs.Common.{sym, ap, ◌∙◌}
+use Rattle.text.specs.Texts.{numbers}
+use Rattle.text.specs.Documents.{TextState}
+use Rattle.text.proofs.Pairs.{numbers-paired}
 use Rattle.text.proofs.document.Document.letters.Goals as goal
 
-pub slice_bounds-result-end : goal.slice_bounds-result-end
-slice_bounds-result-end c =
-    let d = c.args.self.now in
-    omega (arith, length-contents d.len (vec_items d.letters) (vec_items d.sites))
-
 pub returns : goal.returns
-returns c =
-    let d = c.args.self.now in
-    rw (sub-zero, c.deref.ensures.value) (contents-numbers d.len c.len-len.result (vec_items d.letters) (vec_items d.sites) c.len-len.ensures)
+returns c = c.as_slice.ensures.value ∙ sym (numbers-paired _ _ c.self.invariant.level) ∙ ap (λ (t : TextState). numbers t.letters) c.self.view_is
