@@ -5,11 +5,10 @@ use Rattle.operation.specs.declared.operation.Operation.{Operation}
 use Rattle.operation.specs.declared.operation.Operation.TheVariants.{Insert, Delete}
 use Rattle.operation.specs.declared.entry.Entry.{Entry}
 use Rattle.text.specs.Texts.{Letter}
-use Rattle.text.specs.Documents.{text_of}
 use Rattle.text.specs.Coded.{coded}
 use Rattle.client.specs.declared.refusal.Refusal.{Refusal as ClientRefusal}
 use Rattle.client.specs.Replicas.{Replica, fresh, submission}
-use Rattle.client.specs.Clients.{replica, edit_refusal, edited, see_refusal, after_seeing, due}
+use Rattle.client.specs.Clients.{client_of, edit_refusal, edited, see_refusal, after_seeing, due}
 use Rattle.server.specs.declared.refusal.Refusal.{Refusal as ServerRefusal}
 use Rattle.server.specs.declared.joined.Joined.{Joined}
 use Rattle.server.specs.Sessions.{free, joined_at, ServerState}
@@ -52,13 +51,13 @@ pub record RoomState : Type 0 where
   pub events : List Event
 
 abbrev pub hosted : Host → ServerState coded
-hosted h = state_of h.server (text_of h.text)
+hosted h = state_of h.server
 
 abbrev pub peer_of : Peer → PeerState
 peer_of w = record {
   joined = is_some w.performed;
-  site = w.client.site;
-  replica = replica w.client (text_of w.text);
+  site = (client_of w.client).site;
+  replica = (client_of w.client).replica;
   queue = deque_items w.queue;
   performed = unwrap_or w.performed 0;
 }

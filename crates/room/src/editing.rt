@@ -18,8 +18,8 @@ impl Peer {
         ensures peer { peer_of self.new ≡ with_replica (edited 65792 (operation_of (peer_of self.old).site edit) (peer_of self.old).replica) (peer_of self.old) }
     {
         match edit {
-            Edit::Insert { place, letter } => self.client.insert(&mut self.text, place, letter),
-            Edit::Delete { place } => self.client.delete(&mut self.text, place),
+            Edit::Insert { place, letter } => self.client.insert(place, letter),
+            Edit::Delete { place } => self.client.delete(place),
         }
     }
 

@@ -1,12 +1,10 @@
 // A peer joins, for the first time or anew.
 ghost use Rattle.std.specs.Prelude.{◌≡◌, ◌<◌, OnOk, is_some};
-ghost use Rattle.text.specs.Documents.{text_of, room_of};
 ghost use Rattle.room.specs.Scenes.{hosted, peer_of, stage, connected, welcome, reconnected, arrived, joining, named};
 
 use crate::event::Event;
 use crate::host::Host;
 use crate::peer::Peer;
-use client::client::Client;
 use server::joined::Joined;
 use std::alloc::AllocError;
 use text::document::Document;
@@ -41,11 +39,12 @@ impl Peer {
     // The peer begins with the server's text and nothing pending.
     fn begin(&mut self, joined: Joined, text: &Document)
         requires site { joined.site < 16 }
-        requires room { room_of text.now ≡ 65536 }
-        ensures { peer_of self.new ≡ arrived joined.site (text_of text.now) joined.revision joined.count }
+        requires room { text.now.room ≡ 65536 }
+        ensures { peer_of self.new ≡ arrived joined.site text.now.letters joined.revision joined.count }
     {
-        self.text.copy_from(text).unwrap();
-        self.client = Client::new(joined.site, joined.revision);
+        self.client
+            .begin(joined.site, joined.revision, text)
+            .unwrap();
         self.queue.clear();
         self.performed = Some(u64::from(joined.count));
     }
@@ -60,7 +59,7 @@ impl Peer {
             let count = performed.saturating_sub(u64::from(joined.count));
             host.events.push(Event::Lost { site, count })?;
         }
-        self.begin(joined, &host.text);
+        self.begin(joined, host.server.text());
         Ok(())
     }
 

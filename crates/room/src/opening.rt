@@ -15,9 +15,9 @@ impl Host {
     pub(crate) fn new(heap: Global) -> Result<Host, AllocError>
         ensures { IfOk result (λ h. (hosted h ≡ opening.server) × (h.events.items ≡ opening.events)) }
     {
+        let text = Document::with_capacity(heap, RECORD_CAPACITY)?;
         Ok(Host {
-            server: Server::new(heap)?,
-            text: Document::with_capacity(heap, RECORD_CAPACITY)?,
+            server: Server::new(heap, text)?,
             events: Vec::new(heap),
         })
     }
@@ -29,9 +29,9 @@ impl Peer {
         requires { site < 16 }
         ensures { IfOk result (λ w. peer_of w ≡ waiting site) }
     {
+        let text = Document::with_capacity(heap, RECORD_CAPACITY + PENDING_CAPACITY)?;
         Ok(Peer {
-            client: Client::new(site, 0),
-            text: Document::with_capacity(heap, RECORD_CAPACITY + PENDING_CAPACITY)?,
+            client: Client::new(site, 0, text),
             queue: VecDeque::new(heap),
             performed: None,
         })

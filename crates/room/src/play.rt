@@ -51,7 +51,7 @@ impl Room {
     pub fn letters(&self) -> &[u32]
         ensures { result.now ≡ numbers (room_state self.now).server.text }
     {
-        self.host.text.letters()
+        self.host.server.text().letters()
     }
 
     // Has this peer joined?
@@ -69,7 +69,7 @@ impl Room {
     {
         self.peers
             .get(usize::from(peer))
-            .map_or(&[], |peer| peer.text.letters())
+            .map_or(&[], |peer| peer.client.text().letters())
     }
 
     // Something is done with all peers, by number.
@@ -115,7 +115,7 @@ impl Room {
         ensures { room_state self.new ≡ crashing (room_state self.old) }
     {
         // An operation that does not fit ends the text there, and a history that the server wrote has none.
-        let _ = self.host.server.restart(&mut self.host.text);
+        let _ = self.host.server.restart();
     }
 
     pub fn play(&mut self, command: Command) -> Result<(), AllocError>

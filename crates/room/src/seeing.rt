@@ -7,8 +7,11 @@ use crate::event::Event;
 use crate::host::Host;
 use crate::message::Message;
 use crate::peer::Peer;
+use client::client::Client;
 use operation::entry::Entry;
 use std::alloc::AllocError;
+use std::mem;
+use text::document::Document;
 
 impl Peer {
     // The peer sees this entry, and sends its revision where that is due; or the refusal is reported. The answer is whether it was seen.
@@ -16,7 +19,10 @@ impl Peer {
         ensures { let refusal = see_refusal 65792 (peer_of self.old).site entry (peer_of self.old).replica in
             IfOk result (λ b. (b ≡ is_none refusal) × (stage host.new self.new ≡ seen refusal entry (stage host.old self.old))) }
     {
-        match self.client.see(&mut self.text, entry) {
+        // Seeing takes the client, so one without a text stands in its place meanwhile.
+        let heap = *self.queue.allocator();
+        let absent = Client::new(self.client.site(), 0, Document::with_capacity(heap, 0)?);
+        match mem::replace(&mut self.client, absent).see(entry) {
             Ok(client) => {
                 self.client = client;
                 if let Some(revision) = self.client.report() {

@@ -19,7 +19,7 @@ impl Host {
     {
         match message {
             Message::Operation(submission) => {
-                self.server.take(&mut self.text, submission)?;
+                self.server.take(submission)?;
                 Ok(())
             }
             Message::Revision(revision) => self.server.hear(site, revision),
