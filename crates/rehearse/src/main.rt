@@ -44,7 +44,7 @@ fn asked_of_room(command: Command) -> Option<RoomCommand>
 fn print_texts<W: Write>(heap: Global, room: &Room, out: &mut W) -> anyhow::Result<()> {
     let shown = show(heap, room.letters())?;
     writeln!(out, "desk: {shown}")?;
-    for writer in 0..WRITERS as u8 {
+    for writer in 0..WRITERS {
         if room.has_joined(writer) {
             let shown = show(heap, room.letters_of(writer))?;
             writeln!(out, "{writer}: {shown}")?;
@@ -70,9 +70,8 @@ fn run(rt: &HostRuntime) -> anyhow::Result<bool> {
     let mut room = Room::new(heap)?;
     let mut out = BufWriter::new(heap, rt.stdout())?;
     let mut good = true;
-    let mut number: u64 = 0;
-    for line in BufReader::new(heap, rt.stdin())?.split(heap, b'\n') {
-        number = number.saturating_add(1);
+    let lines = BufReader::new(heap, rt.stdin())?.split(heap, b'\n');
+    for (number, line) in (1u64..).zip(lines) {
         let line = line?;
         match parse(line.as_slice()) {
             Ok(None) => {}
@@ -86,8 +85,7 @@ fn run(rt: &HostRuntime) -> anyhow::Result<bool> {
             },
             Err(fault) => {
                 good = false;
-                let message = fault.message();
-                eprintln!(rt; "line {number}: {message}")?;
+                eprintln!(rt; "line {number}: {fault}")?;
             }
         }
     }
