@@ -1,5 +1,5 @@
 -- The seats of a server whose sessions are changed one by one.
-use Rattle.std.proofs.Common.{◌≡◌, ℕ, zero, suc, ◌<◌, ◌≤◌, true, cond, eqb, List, [], ◌∷◌, ◌++◌, map, length, get_or, set, sym, refl, ap, ◌∙◌, ⊎_elim, arith}
+use Rattle.std.proofs.Common.{◌≡◌, ℕ, All, zero, suc, ◌<◌, ◌≤◌, true, cond, eqb, List, [], ◌∷◌, map, length, get_or, set, sym, refl, ap, ◌∙◌, ⊎_elim, arith}
 use Rattle.std.proofs.lemmas.List.{get_or-map, get_or_past, get_or-set_same, get_or-set_other, map-set, length-map}
 use Rattle.std.proofs.lemmas.Bool.{cases_eq, cases_lt, false≢true, eq-eqb, ne_eqb, cond-true, cond-false}
 use Rattle.text.specs.Coded.{coded}
@@ -34,8 +34,8 @@ pub seat_connected : (ss : List Session) (i : ℕ) → (seats_in ss i).connected
 seat_connected ss i e =
     ⊎_elim (λ l. l) (λ l. absurd (false≢true (sym (ap (λ (s : Seat Op). s.connected) (seat_past ss i l)) ∙ e))) (cases_lt i (length ss))
 
-pub seats-push : (ss : List Session) (s : Session) → ((j : ℕ) → seats_in ss j ≡ free) → seat_of s ≡ free → (j : ℕ) → seats_in (ss ++ s ∷ []) j ≡ free
-seats-push [] s h e zero = e
-seats-push [] s h e (suc j) = refl
-seats-push (x ∷ ss) s h e zero = h 0
-seats-push (x ∷ ss) s h e (suc j) = seats-push ss s (λ k. h (suc k)) e j
+-- where every session is free, so is every site
+pub all_free : (ss : List Session) → All (λ s. seat_of s ≡ free) ss → (i : ℕ) → seats_in ss i ≡ free
+all_free [] all i = refl
+all_free (s ∷ ss) all zero = all 0 s (omega arith)
+all_free (s ∷ ss) all (suc i) = all_free ss (λ k d l. all (suc k) d (omega arith)) i
