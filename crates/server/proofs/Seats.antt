@@ -1,7 +1,9 @@
 -- The seats of a server whose sessions are changed one by one.
-use Rattle.std.proofs.Common.{◌≡◌, ℕ, zero, suc, ◌<◌, ◌≤◌, true, cond, eqb, List, [], ◌∷◌, ◌++◌, map, length, get_or, set, sym, refl, ap, ◌∙◌, ⊎_elim, arith}
-use Rattle.std.proofs.lemmas.List.{get_or-map, get_or_past, get_or-set_same, get_or-set_other, map-set, length-map}
-use Rattle.std.proofs.lemmas.Bool.{cases_eq, cases_lt, false≢true, eq-eqb, ne_eqb, cond-true, cond-false}
+use Rattle.std.proofs.Common.{◌≡◌, ℕ, All, zero, suc, ◌<◌, ◌≤◌, true, cond, eqb, List, [], ◌∷◌, map, length, get_or, set, sym, refl, ap, ◌∙◌, ⊎_elim, arith}
+use Rattle.std.proofs.lemmas.List.{get_or-map, get_or_past, map-set, length-map}
+use Rattle.std.proofs.lemmas.Bool.{cases_lt, false≢true}
+use Rattle.std.proofs.lemmas.Grind.{common_steps}
+use Rattle.std.proofs.lemmas.Bool.Decides.{nat_tests}
 use Rattle.text.specs.Coded.{coded}
 use Rattle.text.specs.Texts.{Letter}
 use Rattle.server.specs.declared.session.Session.{Session}
@@ -19,11 +21,8 @@ seat_past ss i h = get_or_past (map seat_of ss) i free (let l = length-map ss se
 pub seat_set : (ss : List Session) (i : ℕ) (s : Session) (x : Seat Op) → i < length ss → seat_of s ≡ x → (j : ℕ) → seats_in (set ss i s) j ≡ cond (eqb j i) x (seats_in ss j)
 seat_set ss i s x h e j =
     let l = length-map ss seat_of in
-    ap (λ (xs : List (Seat Op)). get_or xs j free) (map-set seat_of ss i s)
-    ∙ ⊎_elim
-    (λ n. ap (λ k. get_or (set (map seat_of ss) i (seat_of s)) k free) n ∙ get_or-set_same (map seat_of ss) i (seat_of s) free (omega arith) ∙ e ∙ sym (cond-true _ x (seats_in ss j) (eq-eqb j i n)))
-    (λ n. get_or-set_other (map seat_of ss) i j (seat_of s) free n ∙ sym (cond-false _ x (seats_in ss j) (ne_eqb j i n)))
-    (cases_eq j i)
+    let m = map-set seat_of ss i s in
+    rw m (grind (arith, common_steps, nat_tests, e))
 
 -- the session of site k is another
 pub seat_written : (t : List Letter) (h : List Op) (ss : List Session) (i k : ℕ) (s : Session) (x : Seat Op) → i ≡ k → i < length ss → seat_of s ≡ x →
@@ -34,8 +33,8 @@ pub seat_connected : (ss : List Session) (i : ℕ) → (seats_in ss i).connected
 seat_connected ss i e =
     ⊎_elim (λ l. l) (λ l. absurd (false≢true (sym (ap (λ (s : Seat Op). s.connected) (seat_past ss i l)) ∙ e))) (cases_lt i (length ss))
 
-pub seats-push : (ss : List Session) (s : Session) → ((j : ℕ) → seats_in ss j ≡ free) → seat_of s ≡ free → (j : ℕ) → seats_in (ss ++ s ∷ []) j ≡ free
-seats-push [] s h e zero = e
-seats-push [] s h e (suc j) = refl
-seats-push (x ∷ ss) s h e zero = h 0
-seats-push (x ∷ ss) s h e (suc j) = seats-push ss s (λ k. h (suc k)) e j
+-- where every session is free, so is every site
+pub all_free : (ss : List Session) → All (λ s. seat_of s ≡ free) ss → (i : ℕ) → seats_in ss i ≡ free
+all_free [] all i = refl
+all_free (s ∷ ss) all zero = all 0 s (omega arith)
+all_free (s ∷ ss) all (suc i) = all_free ss (λ k d l. all (suc k) d (omega arith)) i

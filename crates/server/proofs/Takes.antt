@@ -1,5 +1,5 @@
 -- An operation is taken: the sender's seat is written, and then the sender goes, or the others are told.
-use Rattle.std.proofs.Common.{◌≡◌, ℕ, min, Bool, true, false, cond, eqb, ◌∷◌, [], ◌++◌, length, Some, None, Ok, Err, Option, refl, ap, ◌∙◌, sym}
+use Rattle.std.proofs.Common.{◌≡◌, ℕ, min, Bool, true, false, cond, eqb, ◌∷◌, [], ◌++◌, length, Some, None, Ok, Option, refl, ap, ◌∙◌, sym}
 use Rattle.operation.specs.declared.entry.Entry.{Entry}
 use Rattle.operation.specs.declared.entry.Submission.{Submission}
 use Rattle.operation.specs.Edits.{site, apply}
@@ -7,9 +7,8 @@ use Rattle.text.specs.declared.refusal.Refusal.{Refusal as TextRefusal}
 use Rattle.text.specs.declared.refusal.Refusal.TheVariants as text
 use Rattle.text.specs.Texts.{signed, refusal, unless}
 use Rattle.text.specs.Coded.{coded}
-use Rattle.server.specs.declared.refusal.Refusal.TheVariants.{NotConnected, OutOfMemory}
 use Rattle.server.specs.Sessions.{Seat, told, ServerState, arrival, sender}
-use Rattle.server.specs.Servers.{Op, bounded, lowest, answered, added, taken_bounded, take_answer, with_seat, bad_revision, history_full}
+use Rattle.server.specs.Servers.{Op, bounded, lowest, answered, added, taken_bounded, with_seat}
 
 cond_twice : {A : Type 0} (b : Bool) (x y z : A) → cond b x (cond b y z) ≡ cond b x z
 cond_twice true x y z = refl
@@ -45,19 +44,3 @@ no_reason None bad full u e = refl
 no_reason (Some text.BadLetter) bad full u e = cc
 no_reason (Some text.BeyondText) bad full u e = cc
 no_reason (Some text.TextFull) bad full u e = cc
-
--- the rules never say that memory is wanting
-never : (b : Bool) (q : Option TextRefusal) (bad full : Bool) (e : Entry Op) → cond b (answered (lowest q bad full) e) (Err NotConnected) ≡ Err OutOfMemory → ⊥
-never false q bad full e p = cc
-never true (Some text.BadLetter) bad full e p = cc
-never true (Some text.BeyondText) bad full e p = cc
-never true (Some text.TextFull) true full e p = cc
-never true (Some text.TextFull) false full e p = cc
-never true None true full e p = cc
-never true None false true e p = cc
-never true None false false e p = cc
-
-pub memory_suffices : (n : ℕ) (m : Submission Op) (v : ServerState coded) → take_answer n m v ≡ Err OutOfMemory → ⊥
-memory_suffices n m v =
-    let s = v.seats (site m.op) in
-    never s.connected (refusal (min n 65536) (become m v) v.text) (bad_revision (length v.history) m.revision s) (history_full (length v.history)) (record { place = length v.history; op = become m v })

@@ -1,7 +1,7 @@
 // The sessions of all sites, and the history, gone through one by one.
-ghost use Rattle.std.specs.Prelude.{◌≡◌, ℕ, IfOk, if◌then◌else◌, vec_len, nat_eq};
+ghost use Rattle.std.specs.Prelude.{◌≡◌, ℕ, All, IfOk, if◌then◌else◌, vec_len, nat_eq};
 ghost use Rattle.server.specs.Sessions.{free, told};
-ghost use Rattle.server.specs.Seats.{seats_in, bounded};
+ghost use Rattle.server.specs.Seats.{seat_of, seats_in, bounded};
 ghost use Rattle.server.specs.Servers.{seats, history_of, highest_free, site_count};
 
 use crate::server::{SITES, Server};
@@ -11,17 +11,13 @@ use std::alloc::{AllocError, Global};
 
 // Every site is free.
 pub(crate) fn free_sessions(heap: Global) -> Result<Vec<Session>, AllocError>
-    ensures { IfOk result (λ v. (vec_len v ≡ 16) × ((i : ℕ) → seats_in v.items i ≡ free)) }
+    ensures { IfOk result (λ v. (vec_len v ≡ 16) × All (λ s. seat_of s ≡ free) v.items) }
 {
-    let mut sessions = Vec::with_capacity(heap, SITES)?;
-    for _ in 0..SITES {
-        let session = Session::new(heap)?;
-        sessions.push_reserved(session);
-    }
-    Ok(sessions)
+    (0..SITES).map(|_| Session::new(heap)).try_collect(heap)
 }
 
 // Ends every connection.
+#[tactic(auto, using(crate::proofs::Seats::all_free))]
 pub(crate) fn close_all(sessions: &mut [Session])
     ensures { (i : ℕ) → seats_in sessions.new i ≡ free }
 {
@@ -31,6 +27,7 @@ pub(crate) fn close_all(sessions: &mut [Session])
 }
 
 // Tells every client but that of site `from` of an entry.
+#[tactic(auto, using(crate::proofs::Told::told_all))]
 pub(crate) fn announce(sessions: &mut [Session], from: usize, entry: Entry)
     ensures { (i : ℕ) → seats_in sessions.new i ≡ (if nat_eq i from then seats_in sessions.old i else bounded (told entry (seats_in sessions.old i))) }
 {

@@ -14,5 +14,5 @@ loop-i-preserved c =
       | else-entry-revision w ↦ rw (w.list-is, w.count-is) (FiltersInPlace-more_no c.loop-i.invariant (omega arith) (lt-leb _ _ w.if-entry-revision.false) is)
     ]
 
-pub returns : goal.returns
-returns c = record { few = omega arith; kept = FiltersInPlace-all c.loop-i.invariant (omega arith) ∙ unseen_is _ _ }
+pub returns-clause-kept : goal.returns-clause-kept
+returns-clause-kept c = FiltersInPlace-all c.loop-i.invariant (omega arith) ∙ unseen_is _ _
