@@ -1,5 +1,5 @@
 -- A word that is one character.
-use Rattle.std.proofs.Common.{◌≡◌, ℕ, List, ◌∷◌, ◌++◌, length, Some, None, IsUtf8, ap, ◌∙◌, ⊎_elim}
+use Rattle.std.proofs.Common.{◌≡◌, ℕ, List, ◌∷◌, ◌++◌, length, Some, None, Option, IsUtf8, IsSomeAnd, ap, ◌∙◌, ⊎_elim}
 use lib.Utf8.{encode}
 use Rattle.std.specs.Str.{chars, is_utf8}
 use Rattle.std.proofs.lemmas.Bool.{cond-true, cond-false, cases_Bool}
@@ -20,6 +20,9 @@ pub character_of-one : (w rest : List ℕ) (c : ℕ) → IsUtf8 w → w ≡ enco
 character_of-one w rest c u e l = character_of-text w u ∙ ap only (chars_past_char w rest c u e ∙ ap (◌∷◌ c) (ap chars (nil_from_length rest l) ∙ chars-nil))
 
 -- a character with another behind it
-pub character_of-two : (w rest more : List ℕ) (c d : ℕ) → IsUtf8 w → w ≡ encode c ++ rest → rest ≡ encode d ++ more → character_of w ≡ None
-character_of-two w rest more c d u e f =
+pub character_of-two : (w rest more : List ℕ) (o p : Option ℕ) → IsUtf8 w → IsSomeAnd o (λ c. w ≡ encode c ++ rest) → IsSomeAnd p (λ d. rest ≡ encode d ++ more) →
+    character_of w ≡ None
+character_of-two w rest more None p u e f = absurd e
+character_of-two w rest more (Some c) None u e f = absurd f
+character_of-two w rest more (Some c) (Some d) u e f =
     character_of-text w u ∙ ap only (chars_past_char w rest c u e ∙ ap (◌∷◌ c) (chars_past_char rest more d (IsUtf8-past_char w rest c u e) f))

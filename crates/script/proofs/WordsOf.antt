@@ -60,10 +60,10 @@ words_of-word l (Some (suc i)) e f h =
     ap (filter (λ w. not (length w == 0))) s ∙ word_kept (take (suc i) l) (slice_split is_blank (drop (suc (suc i)) l)) (omega (arith, length-take {A = ℕ}))
     ∙ ap (◌∷◌ (take (suc i) l)) (sym (ap words_of (drop-cons l (suc i) 0 lt) ∙ words_of-blank (get_or l (suc i) 0) (drop (suc (suc i)) l) p.1))
 
--- one word taken off: it begins at i, which is the first byte that is no blank, and ends at the first blank behind it, if there is one
-pub words_of-step : (l : List ℕ) (i : ℕ) (o : Option ℕ) → position is_of_word l ≡ Some i → position is_blank (drop i l) ≡ o →
-    words_of l ≡ take (unwrap_or o (length (drop i l))) (drop i l) ∷ words_of (drop (unwrap_or o (length (drop i l))) (drop i l))
-words_of-step l i o e f =
+-- one word taken off: it begins at i, which is the first byte that is no blank, and ends at the first blank of what stands there, if there is one
+pub words_of-step : (l m : List ℕ) (i : ℕ) (o : Option ℕ) → position is_of_word l ≡ Some i → m ≡ drop i l → position is_blank m ≡ o →
+    words_of l ≡ take (unwrap_or o (length m)) m ∷ words_of (drop (unwrap_or o (length m)) m)
+words_of-step l m i o e d f =
     let p = position-Some is_of_word l i 0 e in
-    words_of-drop l i (omega arith) (λ k h. not-false (is_blank (get_or l k 0)) (p.2 k h))
-    ∙ words_of-word (drop i l) o f (rw (get_or-drop, add-zero) (not-true (is_blank (get_or l i 0)) p.1)) (omega (arith, length-drop {A = ℕ}))
+    words_of-drop l i (omega arith) (λ k h. not-false (is_blank (get_or l k 0)) (p.2 k h)) ∙ ap words_of (sym d)
+    ∙ words_of-word m o f (rw (d, get_or-drop, add-zero) (not-true (is_blank (get_or l i 0)) p.1)) (omega (arith, length-drop i l, ap length d))

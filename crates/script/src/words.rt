@@ -7,7 +7,7 @@ ghost use Rattle.script.specs.Words.{is_blank, words_of};
 fn is_blank(b: u8) -> bool
     ensures { result ≡ is_blank b }
 {
-    b == b' ' || b == b'\t' || b == b'\r'
+    matches!(b, b' ' | b'\t' | b'\r')
 }
 
 // The words of a line, in order.
@@ -32,9 +32,8 @@ impl<'a> Iterator for Words<'a> {
     ghost remaining = { item_count (λ s. words_of s.line.now) };
 
     fn next(&mut self) -> Option<&'a [u8]> {
-        let line = self.line;
-        let start = line.iter().position(|b| !is_blank(*b))?;
-        let (_, line) = line.split_at(start);
+        let start = self.line.iter().position(|b| !is_blank(*b))?;
+        let line = &self.line[start..];
         let end = line.iter().position(|b| is_blank(*b)).unwrap_or(line.len());
         let (word, rest) = line.split_at(end);
         self.line = rest;

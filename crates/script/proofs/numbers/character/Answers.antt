@@ -1,4 +1,4 @@
-use Rattle.std.proofs.Common.{◌≡◌, ◌++◌, IsUtf8, arith}
+use Rattle.std.proofs.Common.{◌≡◌, ◌++◌, IsSomeAnd, IsUtf8, arith}
 use lib.Utf8.{encode}
 use Rattle.std.specs.Str.Iter.{chars_rest}
 use Rattle.script.proofs.Characters.{character_of-bytes, character_of-one, character_of-two}
@@ -9,12 +9,13 @@ returns-in_err-ok c = grind (arith, character_of-bytes)
 
 pub returns : goal.returns
 returns c =
-    let u : IsUtf8 c.args.word.now = grind arith in
-    let w : c.args.word.now ≡ encode c.in-Some-None.letter ++ chars_rest c.next.new.self = grind arith in
-    grind (arith, character_of-one _ _ _ u w)
+    let text : IsUtf8 c.args.word.now = grind arith in
+    let first : c.args.word.now ≡ encode c.from.result ++ chars_rest c.next.new.self = grind arith in
+    grind (arith, character_of-one _ _ _ text first)
 
 pub returns-in_default : goal.returns-in_default
 returns-in_default c =
-    let u : IsUtf8 c.args.word.now = grind arith in
-    let w : c.args.word.now ≡ encode c.in_default.field-0-0 ++ chars_rest c.next.new.self = grind arith in
-    grind (arith, character_of-two _ _ _ _ _ u w c.in_default.ensures'.steps.0)
+    let text : IsUtf8 c.args.word.now = grind arith in
+    let first : IsSomeAnd c.next.result (λ d. c.args.word.now ≡ encode d ++ chars_rest c.next.new.self) = grind arith in
+    let second : IsSomeAnd c.next-2.result (λ d. chars_rest c.next.new.self ≡ encode d ++ chars_rest c.next-2.new.self) = grind arith in
+    grind (arith, character_of-two _ _ _ _ _ text first second)
