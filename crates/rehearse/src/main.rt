@@ -8,8 +8,8 @@ use room::action::Action;
 use room::command::Command as RoomCommand;
 use room::edit::Edit;
 use room::event::Event;
-use room::room::Room;
-use script::command::{Command, WRITERS};
+use room::room::{PEERS, Room};
+use script::command::Command;
 use script::parse::parse;
 use script::show::show;
 use std::alloc::Global;
@@ -44,7 +44,7 @@ fn asked_of_room(command: Command) -> Option<RoomCommand>
 fn print_texts<W: Write>(heap: Global, room: &Room, out: &mut W) -> anyhow::Result<()> {
     let shown = show(heap, room.letters())?;
     writeln!(out, "desk: {shown}")?;
-    for writer in 0..WRITERS {
+    for writer in 0..PEERS {
         if room.has_joined(writer) {
             let shown = show(heap, room.letters_of(writer))?;
             writeln!(out, "{writer}: {shown}")?;
@@ -55,11 +55,7 @@ fn print_texts<W: Write>(heap: Global, room: &Room, out: &mut W) -> anyhow::Resu
 
 fn print_events<W: Write>(events: &[Event], out: &mut W) -> anyhow::Result<()> {
     for event in events {
-        match *event {
-            Event::Nothing => writeln!(out, "nothing")?,
-            Event::Refused { number } => writeln!(out, "refused {number}")?,
-            Event::Lost { site, count } => writeln!(out, "{site}: lost {count}")?,
-        }
+        writeln!(out, "{event}")?;
     }
     Ok(())
 }

@@ -1,59 +1,71 @@
--- One peer of the room, among the others.
-use Rattle.std.proofs.Common.{◌≡◌, ℕ, suc, ◌+◌, ◌<◌, ◌≤◌, true, false, ◌||◌, ltb, List, map, length, get_or, set, sym, refl, ap, ◌∙◌, subst, arith}
-use Rattle.std.proofs.lemmas.List.{get_or-map, get_or_past, length-map, map-set}
-use Rattle.std.proofs.lemmas.Bool.{ltb-true, ltb-false}
-use Rattle.text.specs.Coded.{coded}
-use Rattle.server.specs.Sessions.{ServerState}
-use Rattle.room.specs.declared.event.Event.{Event}
+-- The peers of the room, one after another.
+use Rattle.std.proofs.Common.{◌≡◌, ℕ, zero, suc, ◌+◌, ◌<◌, ◌≤◌, Bool, true, false, ◌||◌, List, [], ◌∷◌, ◌++◌, map, length, take, get_or, set, vec_items, sym, refl, ap, ◌∙◌, arith}
+use Rattle.std.proofs.Math.Seq.{take-suc}
+use Rattle.std.specs.List.{list_any}
+use Rattle.std.proofs.lemmas.List.{get_or-map, length-map, map-set, take_all}
+use Rattle.std.proofs.lemmas.List.Folds.{list_any-append}
+use Rattle.room.specs.declared.host.Host.{Host}
 use Rattle.room.specs.declared.peer.Peer.{Peer}
-use Rattle.room.specs.Scenes.{Scene, RoomState, peer_of, stage, waiting, scene, with, with_each, ended, any_ended}
+use Rattle.room.specs.declared.room.Room.{Room}
+use Rattle.room.specs.Scenes.{PeerState, Scene, RoomState, hosted, peer_of, stage, room_state, waiting, opening, scene, with, with_each, ended, any_ended}
 
-pub peer_at : (ws : List Peer) (i : ℕ) (x : Peer) → i < length ws → x ≡ get_or ws i x → peer_of x ≡ get_or (map peer_of ws) i (waiting i)
-peer_at ws i x h found = ap peer_of found ∙ sym (get_or-map peer_of ws i x (waiting i) h)
+-- one peer more, as a room begins
+pub one_more_waits : (i : ℕ) → i < 4 → take (i + 1) opening.peers ≡ take i opening.peers ++ waiting i ∷ []
+one_more_waits zero h = refl
+one_more_waits (suc zero) h = refl
+one_more_waits (suc (suc zero)) h = refl
+one_more_waits (suc (suc (suc zero))) h = refl
+one_more_waits (suc (suc (suc (suc n)))) h = absurd (omega arith)
 
--- looked up in zs, which is ws
-module _ (ws zs : List Peer) (i : ℕ) (same : zs ≡ ws) where
-  pub looked_up : (x : Peer) → (true ≡ ltb i (length zs)) × (x ≡ get_or zs i x) → peer_of x ≡ get_or (map peer_of ws) i (waiting i)
-  looked_up x f = peer_at ws i x (subst (λ us. i < length us) same (ltb-true i (length zs) (sym f.0))) (f.1 ∙ ap (λ us. get_or us i x) same)
+-- a room with these peers
+abbrev pub gathered : Host → List Peer → RoomState
+gathered h ws = record { server = hosted h; peers = map peer_of ws; events = vec_items h.events }
 
-  pub not_there : false ≡ ltb i (length zs) → waiting i ≡ get_or (map peer_of ws) i (waiting i)
-  not_there f =
-      let h : length zs ≤ i = ltb-false i (length zs) (sym f) in
-      sym (get_or_past (map peer_of ws) i (waiting i) (subst (λ n. n ≤ i) (ap length same ∙ sym (length-map ws peer_of)) h))
+-- what is done with a peer on stage is done in the room
+module _ (h : Host) (ws : List Peer) (i : ℕ) (d : Peer) (below : i < length ws) where
+  on_stage : stage h (get_or ws i d) ≡ scene i (gathered h ws)
+  on_stage = let e = get_or-map peer_of ws i d (waiting i) below in λ j. record { server = hosted h; peer = sym e j; events = vec_items h.events }
 
-module _ (v : ServerState coded) (ws : List Peer) (es : List Event) (i : ℕ) (x : Peer) (h : i < length ws) (found : x ≡ get_or ws i x) where
-  abbrev room : RoomState
-  room = record { server = v; peers = map peer_of ws; events = es }
-
-  -- the peer that is found there is the one on stage
-  pub on_stage : stage v x es ≡ scene i room
-  on_stage = let e = peer_at ws i x h found in λ j. record { server = v; peer = e j; events = es }
-
-  -- what is done with it is done in the room
-  pub done_with : (f : Scene → Scene) (u : ServerState coded) (y : Peer) (fs : List Event) → stage u y fs ≡ f (stage v x es) →
-      record { server = u; peers = map peer_of (set ws i y); events = fs } ≡ with i f room
-  done_with f u y fs e =
-      let p : stage u y fs ≡ f (scene i room) = e ∙ ap f on_stage in
-      ap (λ zs. record { server = u; peers = zs; events = fs }) (map-set peer_of ws i y)
-      ∙ ap (λ (s : Scene). record { server = s.server; peers = set (map peer_of ws) i s.peer; events = s.events }) p
-
--- one peer more
-module _ (i : ℕ) (r : RoomState) where
-  next : i + 1 ≡ suc i
-  next = omega arith
-
-  pub each_more : (f : Scene → Scene) → with_each (i + 1) f r ≡ with i f (with_each i f r)
-  unfolding with_each
-  each_more f = ap (λ n. with_each n f r) next
-
-  pub any_more : any_ended (i + 1) r ≡ any_ended i r || ended (scene i r)
-  unfolding any_ended
-  any_more = ap (λ n. any_ended n r) next
+  pub done_with : (f : Scene → Scene) (k : Host) (y : Peer) → stage k y ≡ f (stage h (get_or ws i d)) → gathered k (set ws i y) ≡ with i f (gathered h ws)
+  done_with f k y e =
+      ap (λ zs. record { server = hosted k; peers = zs; events = vec_items k.events }) (map-set peer_of ws i y)
+      ∙ ap (λ (s : Scene). record { server = s.server; peers = set (map peer_of ws) i s.peer; events = s.events }) (e ∙ ap f on_stage)
 
 pub each_none : (f : Scene → Scene) (r : RoomState) → with_each 0 f r ≡ r
 unfolding with_each
 each_none f r = refl
 
-pub any_none : (r : RoomState) → any_ended 0 r ≡ false
+pub each_more : (i : ℕ) (f : Scene → Scene) (r : RoomState) → with_each (i + 1) f r ≡ with i f (with_each i f r)
+unfolding with_each
+each_more i f r = let next : i + 1 ≡ suc i = omega arith in ap (λ n. with_each n f r) next
+
+-- has this peer of the room ended?
+abbrev has_ended : RoomState → PeerState → Bool
+has_ended r w = ended (record { server = r.server; peer = w; events = r.events })
+
+or_false : (b : Bool) → b || false ≡ b
+or_false true = refl
+or_false false = refl
+
+any_of_first : (n : ℕ) (r : RoomState) → n ≤ length r.peers → any_ended n r ≡ list_any (has_ended r) (take n r.peers)
 unfolding any_ended
-any_none r = refl
+any_of_first zero r h = refl
+any_of_first (suc n) r h =
+    let below : n < length r.peers = omega arith in
+    let before : n ≤ length r.peers = omega arith in
+    ap (λ b. b || ended (scene n r)) (any_of_first n r before)
+    ∙ sym (ap (list_any (has_ended r)) (take-suc r.peers n (waiting n) below) ∙ list_any-append (has_ended r) (take n r.peers) (get_or r.peers n (waiting n) ∷ [])
+    ∙ ap (λ b. list_any (has_ended r) (take n r.peers) || b) (or_false (ended (scene n r))))
+
+list_any-map : {A B : Type 0} (p : B → Bool) (f : A → B) (xs : List A) → list_any p (map f xs) ≡ list_any (λ x. p (f x)) xs
+list_any-map p f [] = refl
+list_any-map p f (x ∷ xs) = ap (λ b. p (f x) || b) (list_any-map p f xs)
+
+-- the four are all that there are
+pub any_peer : (m : Room) → any_ended 4 (room_state m) ≡ list_any (λ w. ended (stage m.host w)) (vec_items m.peers)
+any_peer m =
+    let r = room_state m in
+    let four : length r.peers ≡ 4 = omega (arith, length-map (vec_items m.peers) peer_of, m.four) in
+    let h : 4 ≤ length r.peers = omega arith in
+    let k : length r.peers ≤ 4 = omega arith in
+    any_of_first 4 r h ∙ ap (list_any (has_ended r)) (take_all 4 r.peers k) ∙ list_any-map (has_ended r) peer_of (vec_items m.peers)

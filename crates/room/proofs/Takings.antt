@@ -29,16 +29,16 @@ module _ (stop : Message Op → Bool) (f : Scene → Scene) where
         let told = ap (λ j. s.events ++ refused_by (server_refusal j m s.server)) (sym own) ∙ sym did.2 in
         λ j. record { server = after j; peer = without q s.peer; events = told j }
 
-    turn : taking_until stop f s.peer.queue s ≡ cond (b && not (stop m)) (taking_until stop f q then) then
-    turn =
-        ap (λ z. taking_until stop f z s) front ∙ step m q s ∙ ap (λ c. cond (c && not (stop m)) (taking_until stop f q (arriving m q s)) (arriving m q s)) (ap (λ j. is_accepted (server_refusal j m s.server)) (sym own) ∙ sym did.0)
-        ∙ ap (λ t. cond (b && not (stop m)) (taking_until stop f q t) t) came
+    turn : (c : Bool) → b && not (stop m) ≡ c → taking_until stop f s.peer.queue s ≡ cond c (taking_until stop f q then) then
+    turn c e =
+        ap (λ z. taking_until stop f z s) front ∙ step m q s
+        ∙ ap (λ d. cond d (taking_until stop f q (arriving m q s)) (arriving m q s)) (ap (λ a. a && not (stop m)) (ap (λ j. is_accepted (server_refusal j m s.server)) (sym own) ∙ sym did.0) ∙ e)
+        ∙ ap (λ t. cond c (taking_until stop f q t) t) came
 
-    pub take_more : b ≡ true → stop m ≡ false → taking_until stop f s.peer.queue s ≡ taking_until stop f q then
-    take_more e d = turn ∙ ap (λ c. cond (c && not (stop m)) (taking_until stop f q then) then) e ∙ ap (λ c. cond (not c) (taking_until stop f q then) then) d
+    -- more are taken from there
+    pub take_more : b && not (stop m) ≡ true → taking_until stop f s.peer.queue s ≡ taking_until stop f q then
+    take_more = turn true
 
-    pub take_refused : b ≡ false → taking_until stop f s.peer.queue s ≡ then
-    take_refused e = turn ∙ ap (λ c. cond (c && not (stop m)) (taking_until stop f q then) then) e
-
-    pub take_stopped : b ≡ true → stop m ≡ true → taking_until stop f s.peer.queue s ≡ then
-    take_stopped e d = turn ∙ ap (λ c. cond (c && not (stop m)) (taking_until stop f q then) then) e ∙ ap (λ c. cond (not c) (taking_until stop f q then) then) d
+    -- that is the end
+    pub take_last : b && not (stop m) ≡ false → taking_until stop f s.peer.queue s ≡ then
+    take_last = turn false

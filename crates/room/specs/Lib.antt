@@ -1,3 +1,5 @@
+pub mod Refusals
+pub mod Events
 pub mod Scenes
 pub mod Cases
 pub mod Runs

@@ -1,19 +1,16 @@
 -- What a script's commands do: to the server and one peer, and to the room with all peers. Each is a function on states.
-use Rattle.std.specs.Prelude.{ℕ, zero, suc, ◌+◌, ◌-◌, ◌^◌, min, Bool, true, false, cond, not, ◌&&◌, ◌||◌, List, [], ◌∷◌, ◌++◌, map, length, Some, None, Ok, Err, vec_items, Option, Result, is_none, nat_lt, slice_index_or, slice_set}
+use Rattle.std.specs.Prelude.{ℕ, zero, suc, ◌+◌, ◌-◌, ◌^◌, min, Bool, true, false, cond, not, ◌&&◌, ◌||◌, List, [], ◌∷◌, ◌++◌, map, length, Some, None, Ok, Err, vec_items, Option, Result, is_none, is_some, unwrap_or, nat_lt, slice_index_or, slice_set}
 use Rattle.std.specs.VecDeque.{deque_items}
 use Rattle.operation.specs.declared.operation.Operation.{Operation}
 use Rattle.operation.specs.declared.operation.Operation.TheVariants.{Insert, Delete}
 use Rattle.operation.specs.declared.entry.Entry.{Entry}
 use Rattle.text.specs.Texts.{Letter}
-use Rattle.text.specs.Documents.{text_of}
 use Rattle.text.specs.Coded.{coded}
 use Rattle.client.specs.declared.refusal.Refusal.{Refusal as ClientRefusal}
-use Rattle.client.specs.Refusals.{number_of as client_number}
 use Rattle.client.specs.Replicas.{Replica, fresh, submission}
-use Rattle.client.specs.Clients.{replica, edit_refusal, edited, see_refusal, after_seeing, due}
+use Rattle.client.specs.Clients.{client_of, edit_refusal, edited, see_refusal, after_seeing, due}
 use Rattle.server.specs.declared.refusal.Refusal.{Refusal as ServerRefusal}
 use Rattle.server.specs.declared.joined.Joined.{Joined}
-use Rattle.server.specs.Refusals.{number_of as server_number}
 use Rattle.server.specs.Sessions.{free, joined_at, ServerState}
 use Rattle.server.specs.Servers.{state_of, with_seat, take_answer, take_after, hear_answer, hear_after, site_count, entry_at, restarted}
 use Rattle.room.specs.declared.message.Message.{Message}
@@ -26,6 +23,7 @@ use Rattle.room.specs.declared.edit.Edit.{Edit}
 use Rattle.room.specs.declared.edit.Edit.TheVariants as edit
 use Rattle.room.specs.declared.event.Event.{Event}
 use Rattle.room.specs.declared.event.Event.TheVariants as event
+use Rattle.room.specs.declared.refusal.Refusal.TheVariants as refusal
 use Rattle.room.specs.declared.host.Host.{Host}
 use Rattle.room.specs.declared.peer.Peer.{Peer}
 use Rattle.room.specs.declared.room.Room.{Room}
@@ -53,23 +51,23 @@ pub record RoomState : Type 0 where
   pub events : List Event
 
 abbrev pub hosted : Host → ServerState coded
-hosted h = state_of h.server (text_of h.text)
+hosted h = state_of h.server
 
 abbrev pub peer_of : Peer → PeerState
 peer_of w = record {
-  joined = w.joined;
-  site = w.client.site;
-  replica = replica w.client (text_of w.text);
+  joined = is_some w.performed;
+  site = (client_of w.client).site;
+  replica = (client_of w.client).replica;
   queue = deque_items w.queue;
-  performed = w.performed;
+  performed = unwrap_or w.performed 0;
 }
 
 abbrev pub room_state : Room → RoomState
-room_state r = record { server = hosted r.host; peers = map peer_of (vec_items r.peers); events = vec_items r.events }
+room_state r = record { server = hosted r.host; peers = map peer_of (vec_items r.peers); events = vec_items r.host.events }
 
--- the server in a state, and a peer
-abbrev pub stage : ServerState coded → Peer → List Event → Scene
-stage v w es = record { server = v; peer = peer_of w; events = es }
+-- the server with what there is to report, and a peer
+abbrev pub stage : Host → Peer → Scene
+stage h w = record { server = hosted h; peer = peer_of w; events = vec_items h.events }
 
 -- something more is reported
 abbrev pub reported : List Event → Scene → Scene
@@ -119,7 +117,7 @@ sent_off None o s = record {
   };
   events = s.events;
 }
-sent_off (Some e) o s = reported (event.Refused (client_number e) ∷ []) s
+sent_off (Some e) o s = reported (event.Refused (refusal.Client e) ∷ []) s
 
 -- what the peer at site i is asked to perform
 abbrev pub operation_of : ℕ → Edit → Op
@@ -149,7 +147,7 @@ seen None e s = record {
   };
   events = s.events;
 }
-seen (Some r) e s = reported (event.Refused (client_number r) ∷ []) s
+seen (Some r) e s = reported (event.Refused (refusal.Client r) ∷ []) s
 
 -- what comes next for the peer
 abbrev pub next_entry : Scene → Option (Entry Op)
@@ -195,7 +193,7 @@ server_after i (message.Revision r) v = hear_after i r v
 
 abbrev pub refused_by : Option ServerRefusal → List Event
 refused_by None = []
-refused_by (Some e) = event.Refused (server_number e) ∷ []
+refused_by (Some e) = event.Refused (refusal.Server e) ∷ []
 
 -- `rest` is under way then
 abbrev pub arriving : Message Op → List (Message Op) → Scene → Scene

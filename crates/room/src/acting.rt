@@ -1,60 +1,35 @@
 // One action, with the server and one peer.
 ghost use Rattle.std.specs.Prelude.{◌≡◌, OnOk};
-ghost use Rattle.room.specs.Scenes.{hosted, stage, acting};
+ghost use Rattle.room.specs.Scenes.{stage, acting};
 
 use crate::action::Action;
-use crate::editing::perform;
-use crate::event::Event;
 use crate::host::Host;
-use crate::joining::{is_connected, join, name};
 use crate::peer::Peer;
-use crate::seeing::{see, see_all};
-use crate::taking::{take, take_all};
 use std::alloc::AllocError;
 
-pub(crate) fn act(
-    host: &mut Host,
-    peer: &mut Peer,
-    action: Action,
-    events: &mut Vec<Event>,
-) -> Result<(), AllocError>
-    ensures { OnOk result (stage (hosted host.new) peer.new events.new.items ≡ acting action (stage (hosted host.old) peer.old events.old.items)) }
-{
-    match action {
-        Action::Edit(edit) => {
-            name(host, peer, events)?;
-            perform(peer, edit, events)
-        }
-        Action::Take => {
-            name(host, peer, events)?;
-            take(host, peer, events)
-        }
-        Action::See => {
-            name(host, peer, events)?;
-            see(host, peer, events)?;
-            Ok(())
-        }
-        Action::Join => join(host, peer, events),
-        Action::Rejoin => {
-            if peer.joined {
-                name(host, peer, events)
-            } else {
-                Ok(())
+impl Peer {
+    pub(crate) fn act(&mut self, host: &mut Host, action: Action) -> Result<(), AllocError>
+        ensures { OnOk result (stage host.new self.new ≡ acting action (stage host.old self.old)) }
+    {
+        match action {
+            Action::Edit(edit) => {
+                self.name(host)?;
+                self.perform(host, edit)
             }
-        }
-        Action::TakeAll => {
-            if is_connected(host, peer) {
-                take_all(host, peer, events)
-            } else {
-                Ok(())
+            Action::Take => {
+                self.name(host)?;
+                self.take(host)
             }
-        }
-        Action::SeeAll => {
-            if is_connected(host, peer) {
-                see_all(host, peer, events)
-            } else {
-                Ok(())
+            Action::See => {
+                self.name(host)?;
+                self.see(host)
             }
+            Action::Join => self.join(host),
+            Action::Rejoin if self.has_joined() => self.name(host),
+            Action::TakeAll if self.is_connected(host) => self.take_all(host),
+            Action::SeeAll if self.is_connected(host) => self.see_all(host),
+            // What settling does is nothing for a peer that has not joined, or has no connection.
+            Action::Rejoin | Action::TakeAll | Action::SeeAll => Ok(()),
         }
     }
 }

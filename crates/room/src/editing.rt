@@ -1,45 +1,40 @@
 // A peer types or strikes.
-ghost use Rattle.std.specs.Prelude.{◌≡◌, OnOk};
-ghost use Rattle.text.specs.Coded.{coded};
+ghost use Rattle.std.specs.Prelude.{◌≡◌, IsSome, OnOk};
 ghost use Rattle.client.specs.Clients.{edited, edit_answer};
-ghost use Rattle.server.specs.Sessions.{ServerState};
-ghost use Rattle.room.specs.Scenes.{peer_of, stage, operation_of, with_replica, performing};
+ghost use Rattle.room.specs.Scenes.{peer_of, stage, operation_of, with_replica, editing};
 
 use crate::edit::Edit;
 use crate::event::Event;
+use crate::host::Host;
 use crate::message::Message;
 use crate::peer::Peer;
 use client::refusal::Refusal;
 use operation::entry::Submission;
 use std::alloc::AllocError;
 
-fn apply(peer: &mut Peer, edit: Edit) -> Result<Submission, Refusal>
-    ensures answer { result ≡ edit_answer 65792 (operation_of (peer_of peer.old).site edit) (peer_of peer.old).replica }
-    ensures peer { peer_of peer.new ≡ with_replica (edited 65792 (operation_of (peer_of peer.old).site edit) (peer_of peer.old).replica) (peer_of peer.old) }
-{
-    match edit {
-        Edit::Insert { place, letter } => peer.client.insert(&mut peer.text, place, letter),
-        Edit::Delete { place } => peer.client.delete(&mut peer.text, place),
+impl Peer {
+    fn apply(&mut self, edit: Edit) -> Result<Submission, Refusal>
+        ensures answer { result ≡ edit_answer 65792 (operation_of (peer_of self.old).site edit) (peer_of self.old).replica }
+        ensures peer { peer_of self.new ≡ with_replica (edited 65792 (operation_of (peer_of self.old).site edit) (peer_of self.old).replica) (peer_of self.old) }
+    {
+        match edit {
+            Edit::Insert { place, letter } => self.client.insert(place, letter),
+            Edit::Delete { place } => self.client.delete(place),
+        }
     }
-}
 
-// The peer performs an edit, and its submission is under way; or the refusal is reported.
-pub(crate) fn perform(
-    peer: &mut Peer,
-    edit: Edit,
-    events: &mut Vec<Event>,
-) -> Result<(), AllocError>
-    ensures { OnOk result ((v : ServerState coded) → stage v peer.new events.new.items ≡ performing (operation_of (peer_of peer.old).site edit) (stage v peer.old events.old.items)) }
-{
-    match apply(peer, edit) {
-        Ok(submission) => {
-            peer.performed = peer.performed.saturating_add(1);
-            peer.queue.push_back(Message::Operation(submission))?;
+    // The peer, which has joined, performs an edit, and its submission is under way; or the refusal is reported.
+    pub(crate) fn perform(&mut self, host: &mut Host, edit: Edit) -> Result<(), AllocError>
+        requires { IsSome self.old.performed }
+        ensures { OnOk result (stage host.new self.new ≡ editing edit (stage host.old self.old)) }
+    {
+        match self.apply(edit) {
+            Ok(submission) => {
+                self.performed = self.performed.map(|count| count.saturating_add(1));
+                self.queue.push_back(Message::Operation(submission))?;
+            }
+            Err(refusal) => host.events.push(Event::Refused(refusal.into()))?,
         }
-        Err(refusal) => {
-            let number = refusal.number();
-            events.push(Event::Refused { number })?;
-        }
+        Ok(())
     }
-    Ok(())
 }

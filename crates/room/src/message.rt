@@ -1,4 +1,6 @@
 // What a client sends to the server.
+ghost use Rattle.std.specs.Prelude.{◌≡◌};
+
 use operation::entry::Submission;
 use operation::operation::Operation;
 
@@ -7,4 +9,14 @@ pub enum Message<O = Operation> {
     Operation(Submission<O>),
     // How many entries of the history the client has seen so far.
     Revision(u32),
+}
+
+impl Message {
+    ghost use Rattle.room.specs.Scenes.{is_operation};
+
+    pub(crate) fn is_operation(&self) -> bool
+        ensures { result ≡ is_operation self.now }
+    {
+        matches!(self, Message::Operation(_))
+    }
 }

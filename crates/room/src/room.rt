@@ -1,7 +1,6 @@
-// The room: the server, its peers, and what there is to report.
+// The room: the server with what there is to report, and its peers.
 ghost use Rattle.std.specs.Prelude.{◌≡◌, vec_len};
 
-use crate::event::Event;
 use crate::host::Host;
 use crate::peer::Peer;
 
@@ -12,6 +11,5 @@ pub const PEERS: u8 = 4;
 pub struct Room {
     pub(crate) host: Host,
     pub(crate) peers: Vec<Peer>,
-    pub(crate) events: Vec<Event>,
     ghost four: { vec_len peers ≡ 4 },
 }

@@ -1,68 +1,65 @@
 // A peer sees entries of the history.
 ghost use Rattle.std.specs.Prelude.{◌≡◌, IfOk, OnOk, is_none};
-ghost use Rattle.text.specs.Coded.{coded};
 ghost use Rattle.client.specs.Clients.{see_refusal};
-ghost use Rattle.server.specs.Sessions.{ServerState};
-ghost use Rattle.room.specs.Scenes.{hosted, peer_of, stage, next_entry, takes_entry, seen, seeing, seeing_all};
+ghost use Rattle.room.specs.Scenes.{peer_of, stage, seen, seeing, seeing_all};
 
 use crate::event::Event;
 use crate::host::Host;
 use crate::message::Message;
 use crate::peer::Peer;
+use client::client::Client;
 use operation::entry::Entry;
 use std::alloc::AllocError;
+use std::mem;
+use text::document::Document;
 
-// The peer sees this entry, and sends its revision where that is due; or the refusal is reported. The answer is whether it was seen.
-fn see_entry(peer: &mut Peer, entry: Entry, events: &mut Vec<Event>) -> Result<bool, AllocError>
-    ensures { IfOk result (λ b. (v : ServerState coded) → (b ≡ is_none (see_refusal 65792 (peer_of peer.old).site entry (peer_of peer.old).replica))
-        × (stage v peer.new events.new.items ≡ seen (see_refusal 65792 (peer_of peer.old).site entry (peer_of peer.old).replica) entry (stage v peer.old events.old.items))) }
-{
-    match peer.client.see(&mut peer.text, entry) {
-        Ok(client) => {
-            peer.client = client;
-            if let Some(revision) = client.report() {
-                peer.queue.push_back(Message::Revision(revision))?;
+impl Peer {
+    // The peer sees this entry, and sends its revision where that is due; or the refusal is reported. The answer is whether it was seen.
+    fn see_entry(&mut self, host: &mut Host, entry: Entry) -> Result<bool, AllocError>
+        ensures { let refusal = see_refusal 65792 (peer_of self.old).site entry (peer_of self.old).replica in
+            IfOk result (λ b. (b ≡ is_none refusal) × (stage host.new self.new ≡ seen refusal entry (stage host.old self.old))) }
+    {
+        // Seeing takes the client, so one without a text stands in its place meanwhile.
+        let heap = *self.queue.allocator();
+        let absent = Client::new(self.client.site(), 0, Document::with_capacity(heap, 0)?);
+        match mem::replace(&mut self.client, absent).see(entry) {
+            Ok(client) => {
+                self.client = client;
+                if let Some(revision) = self.client.report() {
+                    self.queue.push_back(Message::Revision(revision))?;
+                }
+                Ok(true)
             }
-            Ok(true)
-        }
-        Err(refused) => {
-            let (client, refusal) = refused;
-            peer.client = client;
-            let number = refusal.number();
-            events.push(Event::Refused { number })?;
-            Ok(false)
+            Err((client, refusal)) => {
+                self.client = client;
+                host.events.push(Event::Refused(refusal.into()))?;
+                Ok(false)
+            }
         }
     }
-}
 
-// The peer sees the next entry, if there is one.
-pub(crate) fn see(host: &Host, peer: &mut Peer, events: &mut Vec<Event>) -> Result<bool, AllocError>
-    ensures { IfOk result (λ b. (b ≡ takes_entry (next_entry (stage (hosted host.now) peer.old events.old.items)) (stage (hosted host.now) peer.old events.old.items))
-        × (stage (hosted host.now) peer.new events.new.items ≡ seeing (stage (hosted host.now) peer.old events.old.items))) }
-{
-    let Some(entry) = host.server.entry(peer.client.revision()) else {
-        events.push(Event::Nothing)?;
-        return Ok(false);
-    };
-    see_entry(peer, entry, events)
-}
-
-// The peer sees all that there is, as long as nothing is refused.
-pub(crate) fn see_all(
-    host: &Host,
-    peer: &mut Peer,
-    events: &mut Vec<Event>,
-) -> Result<(), AllocError>
-    ensures { OnOk result (stage (hosted host.now) peer.new events.new.items ≡ seeing_all (stage (hosted host.now) peer.old events.old.items)) }
-{
-    let left = host
-        .server
-        .revision()
-        .saturating_sub(peer.client.revision());
-    for _turn in 0..left {
-        if !see(host, peer, events)? {
-            return Ok(());
+    // The peer sees the next entry, if there is one.
+    pub(crate) fn see(&mut self, host: &mut Host) -> Result<(), AllocError>
+        ensures { OnOk result (stage host.new self.new ≡ seeing (stage host.old self.old)) }
+    {
+        match host.server.entry(self.client.revision()) {
+            Some(entry) => {
+                self.see_entry(host, entry)?;
+            }
+            None => host.events.push(Event::Nothing)?,
         }
+        Ok(())
     }
-    Ok(())
+
+    // The peer sees all that there is, as long as nothing is refused.
+    pub(crate) fn see_all(&mut self, host: &mut Host) -> Result<(), AllocError>
+        ensures { OnOk result (stage host.new self.new ≡ seeing_all (stage host.old self.old)) }
+    {
+        while let Some(entry) = host.server.entry(self.client.revision()) {
+            if !self.see_entry(host, entry)? {
+                break;
+            }
+        }
+        Ok(())
+    }
 }

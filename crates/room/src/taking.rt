@@ -1,114 +1,72 @@
 // The server takes what is under way from a peer.
-ghost use Rattle.std.specs.Prelude.{◌≡◌, ◌++◌, IfOk, OnOk};
-ghost use Rattle.server.specs.Servers.{take_answer, take_after, hear_answer, hear_after};
-ghost use Rattle.room.specs.Scenes.{hosted, stage, refusal_of, refused_by, is_accepted, server_refusal, server_after, is_operation, taking, taking_all};
+ghost use Rattle.std.specs.Prelude.{◌≡◌, ◌≢◌, ◌++◌, Err, IfOk, OnOk};
+ghost use Rattle.server.specs.declared.refusal.Refusal.TheVariants.{OutOfMemory};
+ghost use Rattle.room.specs.Scenes.{hosted, stage, refusal_of, refused_by, is_accepted, server_refusal, server_after, taking, taking_all};
 
 use crate::event::Event;
 use crate::host::Host;
 use crate::message::Message;
 use crate::peer::Peer;
-use operation::entry::Submission;
 use server::refusal::Refusal;
 use std::alloc::AllocError;
 
-// The server takes an operation. The answer is why it refuses, if it does.
-fn submit(host: &mut Host, submission: Submission) -> Result<Option<Refusal>, AllocError>
-    ensures { IfOk result (λ a. (a ≡ refusal_of (take_answer 65536 submission (hosted host.old))) × (hosted host.new ≡ take_after 65536 submission (hosted host.old))) }
-{
-    match host.server.take(&mut host.text, submission) {
-        Ok(_) => Ok(None),
-        Err(refusal) => match refusal {
-            Refusal::OutOfMemory => Err(AllocError),
-            _ => Ok(Some(refusal)),
-        },
+impl Host {
+    // The server takes or hears what has come from a site.
+    fn accept(&mut self, site: u8, message: Message) -> Result<(), Refusal>
+        ensures answer { result ≢ Err OutOfMemory → refusal_of result ≡ server_refusal site message (hosted self.old) }
+        ensures host { result ≢ Err OutOfMemory → hosted self.new ≡ server_after site message (hosted self.old) }
+        ensures events { self.new.events ≡ self.old.events }
+    {
+        match message {
+            Message::Operation(submission) => {
+                self.server.take(submission)?;
+                Ok(())
+            }
+            Message::Revision(revision) => self.server.hear(site, revision),
+        }
     }
-}
 
-// The server hears a revision.
-fn hear(host: &mut Host, site: u8, revision: u32) -> Option<Refusal>
-    ensures answer { result ≡ refusal_of (hear_answer site revision (hosted host.old)) }
-    ensures host { hosted host.new ≡ hear_after site revision (hosted host.old) }
-{
-    match host.server.hear(site, revision) {
-        Ok(()) => None,
-        Err(refusal) => Some(refusal),
-    }
-}
-
-// The server takes or hears what has come from a site.
-fn accept(host: &mut Host, site: u8, message: Message) -> Result<Option<Refusal>, AllocError>
-    ensures { IfOk result (λ a. (a ≡ server_refusal site message (hosted host.old)) × (hosted host.new ≡ server_after site message (hosted host.old))) }
-{
-    match message {
-        Message::Operation(submission) => submit(host, submission),
-        Message::Revision(revision) => Ok(hear(host, site, revision)),
-    }
-}
-
-// The same, with a refusal reported. The answer is whether there was none.
-fn receive(
-    host: &mut Host,
-    site: u8,
-    message: Message,
-    events: &mut Vec<Event>,
-) -> Result<bool, AllocError>
-    ensures { IfOk result (λ b. (b ≡ is_accepted (server_refusal site message (hosted host.old)))
-        × (hosted host.new ≡ server_after site message (hosted host.old))
-        × (events.new.items ≡ events.old.items ++ refused_by (server_refusal site message (hosted host.old)))) }
-{
-    match accept(host, site, message)? {
-        None => Ok(true),
-        Some(refusal) => {
-            let number = refusal.number();
-            events.push(Event::Refused { number })?;
-            Ok(false)
+    // The same, with a refusal reported. The answer is whether there was none.
+    fn receive(&mut self, site: u8, message: Message) -> Result<bool, AllocError>
+        ensures { let refusal = server_refusal site message (hosted self.old) in
+            IfOk result (λ b. (b ≡ is_accepted refusal)
+            × (hosted self.new ≡ server_after site message (hosted self.old))
+            × (self.new.events.items ≡ self.old.events.items ++ refused_by refusal)) }
+    {
+        match self.accept(site, message) {
+            Ok(()) => Ok(true),
+            Err(Refusal::OutOfMemory) => Err(AllocError),
+            Err(refusal) => {
+                self.events.push(Event::Refused(refusal.into()))?;
+                Ok(false)
+            }
         }
     }
 }
 
-fn is_operation(message: Message) -> bool
-    ensures { result ≡ is_operation message }
-{
-    match message {
-        Message::Operation(_) => true,
-        Message::Revision(_) => false,
+impl Peer {
+    // The server takes the peer's oldest operation, with any revision before it.
+    pub(crate) fn take(&mut self, host: &mut Host) -> Result<(), AllocError>
+        ensures { OnOk result (stage host.new self.new ≡ taking (stage host.old self.old)) }
+    {
+        while let Some(message) = self.queue.pop_front() {
+            if !host.receive(self.client.site(), message)? || message.is_operation() {
+                return Ok(());
+            }
+        }
+        host.events.push(Event::Nothing)?;
+        Ok(())
     }
-}
 
-// The server takes the peer's oldest operation, with any revision before it.
-pub(crate) fn take(
-    host: &mut Host,
-    peer: &mut Peer,
-    events: &mut Vec<Event>,
-) -> Result<(), AllocError>
-    ensures { OnOk result (stage (hosted host.new) peer.new events.new.items ≡ taking (stage (hosted host.old) peer.old events.old.items)) }
-{
-    let site = peer.client.site();
-    while let Some(message) = peer.queue.pop_front() {
-        if !receive(host, site, message, events)? {
-            return Ok(());
+    // The server takes all that is under way from the peer, as long as nothing is refused.
+    pub(crate) fn take_all(&mut self, host: &mut Host) -> Result<(), AllocError>
+        ensures { OnOk result (stage host.new self.new ≡ taking_all (stage host.old self.old)) }
+    {
+        while let Some(message) = self.queue.pop_front() {
+            if !host.receive(self.client.site(), message)? {
+                break;
+            }
         }
-        if is_operation(message) {
-            return Ok(());
-        }
+        Ok(())
     }
-    events.push(Event::Nothing)?;
-    Ok(())
-}
-
-// The server takes all that is under way from the peer, as long as nothing is refused.
-pub(crate) fn take_all(
-    host: &mut Host,
-    peer: &mut Peer,
-    events: &mut Vec<Event>,
-) -> Result<(), AllocError>
-    ensures { OnOk result (stage (hosted host.new) peer.new events.new.items ≡ taking_all (stage (hosted host.old) peer.old events.old.items)) }
-{
-    let site = peer.client.site();
-    while let Some(message) = peer.queue.pop_front() {
-        if !receive(host, site, message, events)? {
-            return Ok(());
-        }
-    }
-    Ok(())
 }

@@ -1,12 +1,14 @@
-use Rattle.std.proofs.Common.{sym, ap, ◌∙◌}
-use Rattle.room.specs.Scenes.{room_state, acting, with}
-use Rattle.room.proofs.Rooms.{each_more, each_none}
+use Rattle.std.proofs.Common.{sym, ap, ◌∙◌, arith}
+use Rattle.room.specs.Scenes.{acting, with}
+use Rattle.room.proofs.Rooms.{done_with, each_none, each_more}
 use Rattle.room.proofs.room.Room.ask_all.Goals as goal
 
 pub loop-peer-init : goal.loop-peer-init
-loop-peer-init c = sym (each_none (acting c.args.action) (room_state c.args.self.now))
+loop-peer-init c = sym (each_none (acting c.args.action) _)
 
 pub loop-peer-preserved : goal.loop-peer-preserved
 loop-peer-preserved c =
+    let l = c.loop-peer in
     let f = acting c.args.action in
-    c.in_ok-ask.ensures ∙ ap (with c.loop-peer.peer f) c.loop-peer.invariant ∙ sym (each_more c.loop-peer.peer (room_state c.args.self.now) f)
+    done_with l.host l.peer-items l.peer-index c.peer-item.result (omega arith) f c.act.new.host c.act.new.self c.in_ok-act.ensures
+    ∙ ap (with l.peer-index f) l.invariant ∙ sym (each_more l.peer-index f _)

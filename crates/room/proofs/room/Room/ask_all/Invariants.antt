@@ -1,6 +1,7 @@
 use Rattle.std.proofs.Common.{◌≡◌}
-use Rattle.room.specs.Scenes.{room_state, acting, with_each}
+use Rattle.room.specs.Scenes.{acting, with_each}
+use Rattle.room.proofs.Rooms.{gathered}
 use Rattle.room.proofs.room.Room.ask_all.Given as goal
 
 abbrev pub invariant-loop-peer : goal.invariant-loop-peer
-invariant-loop-peer l = room_state l.self ≡ with_each l.peer (acting l.action) (room_state l.initial.self)
+invariant-loop-peer l = gathered l.host l.peer-items ≡ with_each l.peer-index (acting l.action) (gathered l.initial.host l.initial.peer-items)

@@ -1,12 +1,10 @@
-use Rattle.std.proofs.Common.{[], ◌∷◌, map, ap, ◌∙◌}
+use Rattle.std.proofs.Common.{[], ◌∷◌, ◌++◌, map, vec_items, sym, ap, ◌∙◌, ap₂, arith}
+use Rattle.std.proofs.lemmas.List.{map-append}
 use Rattle.room.specs.Scenes.{peer_of}
+use Rattle.room.proofs.Rooms.{one_more_waits}
 use Rattle.room.proofs.room.Room.new.Goals as goal
 
-pub returns : goal.returns
-returns c =
-    let a = c.in_ok-first.ensures in
-    let b = c.in_ok-second.ensures in
-    let d = c.in_ok-third.ensures in
-    let e = c.in_ok-fourth.ensures in
-    let ws = ap (map peer_of) c.in_ok-peers.ensures.items ∙ (λ j. a j ∷ b j ∷ d j ∷ e j ∷ []) in
-    λ j. record { server = c.in_ok-host.ensures j; peers = ws j; events = c.new.ensures.items j }
+pub loop-site-preserved : goal.loop-site-preserved
+loop-site-preserved c =
+    ap (map peer_of) c.in_ok-push.ensures.items ∙ map-append peer_of (vec_items c.loop-site.peers) (c.in_ok-new.field-0 ∷ [])
+    ∙ ap₂ (λ ws w. ws ++ w ∷ []) c.loop-site.invariant c.in_ok-new.ensures ∙ sym (one_more_waits c.loop-site.site (omega arith))

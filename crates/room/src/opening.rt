@@ -1,0 +1,39 @@
+// How a room begins.
+ghost use Rattle.std.specs.Prelude.{◌≡◌, ◌<◌, IfOk};
+ghost use Rattle.room.specs.Scenes.{hosted, peer_of, opening, waiting};
+
+use crate::host::Host;
+use crate::peer::Peer;
+use client::client::{Client, PENDING_CAPACITY};
+use server::server::Server;
+use std::alloc::{AllocError, Global};
+use std::collections::VecDeque;
+use text::document::{Document, RECORD_CAPACITY};
+
+impl Host {
+    // The server with an empty text and history, and nothing to report.
+    pub(crate) fn new(heap: Global) -> Result<Host, AllocError>
+        ensures { IfOk result (λ h. (hosted h ≡ opening.server) × (h.events.items ≡ opening.events)) }
+    {
+        let text = Document::with_capacity(heap, RECORD_CAPACITY)?;
+        Ok(Host {
+            server: Server::new(heap, text)?,
+            events: Vec::new(heap),
+        })
+    }
+}
+
+impl Peer {
+    // A peer that has not joined.
+    pub(crate) fn new(heap: Global, site: u8) -> Result<Peer, AllocError>
+        requires { site < 16 }
+        ensures { IfOk result (λ w. peer_of w ≡ waiting site) }
+    {
+        let text = Document::with_capacity(heap, RECORD_CAPACITY + PENDING_CAPACITY)?;
+        Ok(Peer {
+            client: Client::new(site, 0, text),
+            queue: VecDeque::new(heap),
+            performed: None,
+        })
+    }
+}
