@@ -66,9 +66,8 @@ fn run(rt: &HostRuntime) -> anyhow::Result<bool> {
     let mut room = Room::new(heap)?;
     let mut out = BufWriter::new(heap, rt.stdout())?;
     let mut good = true;
-    let mut number: u64 = 0;
-    for line in BufReader::new(heap, rt.stdin())?.split(heap, b'\n') {
-        number = number.saturating_add(1);
+    let lines = BufReader::new(heap, rt.stdin())?.split(heap, b'\n');
+    for (number, line) in (1u64..).zip(lines) {
         let line = line?;
         match parse(line.as_slice()) {
             Ok(None) => {}
@@ -82,8 +81,7 @@ fn run(rt: &HostRuntime) -> anyhow::Result<bool> {
             },
             Err(fault) => {
                 good = false;
-                let message = fault.message();
-                eprintln!(rt; "line {number}: {message}")?;
+                eprintln!(rt; "line {number}: {fault}")?;
             }
         }
     }

@@ -1,37 +1,28 @@
 -- A word that is one character.
-use Rattle.std.proofs.Common.{◌≡◌, ℕ, true, ◌&&◌, List, [], ◌∷◌, ◌++◌, length, Some, None, IsUtf8, sym, refl, ap, ◌∙◌, subst, ⊎_elim, append-nil, arith}
-use lib.Utf8.{encode, scalar, scalars}
-use Rattle.std.specs.Str.{chars, bytes_eq}
-use Rattle.std.proofs.lemmas.Slice.Eq.{bytes_eq-Decides}
-use Rattle.std.proofs.lemmas.Bool.{cond-true, cond-false, cases_Bool, and_parts, and_from}
-use Rattle.std.proofs.lemmas.Str.{IsUtf8-encode, IsUtf8-past_char, chars-nil, chars_past_char, scalars-chars}
+use Rattle.std.proofs.Common.{◌≡◌, ℕ, List, ◌∷◌, ◌++◌, length, Some, None, Option, IsUtf8, IsSomeAnd, ap, ◌∙◌, ⊎_elim}
+use lib.Utf8.{encode}
+use Rattle.std.specs.Str.{chars, is_utf8}
+use Rattle.std.proofs.lemmas.Bool.{cond-true, cond-false, cases_Bool}
+use Rattle.std.proofs.lemmas.List.{nil_from_length}
+use Rattle.std.proofs.lemmas.Str.{IsUtf8-past_char, IsUtf8-from_is_utf8, is_utf8-from_IsUtf8, chars-nil, chars_past_char}
 use Rattle.script.specs.Numbers.{only, character_of}
 
-not_text : (w cs : List ℕ) → (IsUtf8 w → ⊥) → None ≡ only w cs
-not_text w [] n = refl
-not_text w (c ∷ []) n = ⊎_elim
-    (λ e. let p = and_parts (scalar c) (bytes_eq (encode c) w) e in absurd (n (subst IsUtf8 ((bytes_eq-Decides (encode c) w).0 p.1) (IsUtf8-encode c p.0))))
-    (λ e. sym (cond-false (scalar c && bytes_eq (encode c) w) (Some c) None e)) (cases_Bool (scalar c && bytes_eq (encode c) w))
-not_text w (c ∷ d ∷ cs) n = refl
+-- bytes that are no text are no character
+pub character_of-bytes : (w : List ℕ) → (IsUtf8 w → ⊥) → character_of w ≡ None
+character_of-bytes w n = ⊎_elim (λ e. absurd (n (IsUtf8-from_is_utf8 w e))) (λ e. cond-false (is_utf8 w) (only (chars w)) None e) (cases_Bool (is_utf8 w))
 
-pub none_in_bytes : (w : List ℕ) → (IsUtf8 w → ⊥) → None ≡ character_of w
-none_in_bytes w n = not_text w (chars w) n
+-- a text is the one character that it has
+character_of-text : (w : List ℕ) → IsUtf8 w → character_of w ≡ only (chars w)
+character_of-text w u = cond-true (is_utf8 w) (only (chars w)) None (is_utf8-from_IsUtf8 w u)
 
-nil_of : (w : List ℕ) → length w ≡ 0 → w ≡ []
-nil_of [] e = refl
-nil_of (b ∷ w) e = absurd (omega arith)
+-- a character with nothing behind it
+pub character_of-one : (w rest : List ℕ) (c : ℕ) → IsUtf8 w → w ≡ encode c ++ rest → length rest ≡ 0 → character_of w ≡ Some c
+character_of-one w rest c u e l = character_of-text w u ∙ ap only (chars_past_char w rest c u e ∙ ap (◌∷◌ c) (ap chars (nil_from_length rest l) ∙ chars-nil))
 
-pub none_in_nothing : (w : List ℕ) → length w ≡ 0 → None ≡ character_of w
-none_in_nothing w e = sym (ap (only w) (ap chars (nil_of w e) ∙ chars-nil))
-
-pub none_in_two : (w rest more : List ℕ) (c d : ℕ) → IsUtf8 w → w ≡ encode c ++ rest → rest ≡ encode d ++ more → None ≡ character_of w
-none_in_two w rest more c d u e f =
-    sym (ap (only w) (chars_past_char w rest c u e ∙ ap (◌∷◌ c) (chars_past_char rest more d (IsUtf8-past_char w rest c u e) f)))
-
-pub some_in_one : (w rest : List ℕ) (c : ℕ) → IsUtf8 w → w ≡ encode c ++ rest → length rest ≡ 0 → Some c ≡ character_of w
-some_in_one w rest c u e l =
-    let r = nil_of rest l in
-    let d : chars w ≡ c ∷ [] = chars_past_char w rest c u e ∙ ap (◌∷◌ c) (ap chars r ∙ chars-nil) in
-    let k : scalars (c ∷ []) ≡ true = sym (ap scalars d) ∙ scalars-chars w u in
-    let s = (bytes_eq-Decides (encode c) w).1 (sym (e ∙ ap (◌++◌ (encode c)) r ∙ append-nil (encode c))) in
-    sym (ap (only w) d ∙ cond-true (scalar c && bytes_eq (encode c) w) (Some c) None (and_from _ _ (and_parts _ _ k).0 s))
+-- a character with another behind it
+pub character_of-two : (w rest more : List ℕ) (o p : Option ℕ) → IsUtf8 w → IsSomeAnd o (λ c. w ≡ encode c ++ rest) → IsSomeAnd p (λ d. rest ≡ encode d ++ more) →
+    character_of w ≡ None
+character_of-two w rest more None p u e f = absurd e
+character_of-two w rest more (Some c) None u e f = absurd f
+character_of-two w rest more (Some c) (Some d) u e f =
+    character_of-text w u ∙ ap only (chars_past_char w rest c u e ∙ ap (◌∷◌ c) (chars_past_char rest more d (IsUtf8-past_char w rest c u e) f))

@@ -1,4 +1,3 @@
-pub mod Fronts
-pub mod Digits
-pub mod Characters
 pub mod Hex
+pub mod WordsOf
+pub mod Characters

@@ -1,29 +1,19 @@
 -- Numbers and letters as a script writes them.
-use Rattle.std.specs.Prelude.{ℕ, ◌+◌, ◌-◌, ◌*◌, ◌^◌, min, cond, ◌&&◌, List, [], ◌∷◌, Some, None, Option}
-use Rattle.std.proofs.Math.Utf8.{encode, scalar}
+use Rattle.std.specs.Prelude.{ℕ, ◌-◌, ◌^◌, min, cond, not, ◌&&◌, List, [], ◌∷◌, length, Some, None, Option, ◌==◌}
 use Rattle.std.specs.Char.{is_ascii_digit}
-use Rattle.std.specs.Str.{chars, bytes_eq}
+use Rattle.std.specs.List.{list_all}
+use Rattle.std.specs.Str.{chars, is_utf8}
+use Rattle.std.specs.Str.Parse.{digits_value}
 
--- n with these digits behind it
-unfoldable pub number_from : ℕ → List ℕ → Option ℕ
-number_from n [] = Some n
-number_from n (b ∷ bs) = cond (is_ascii_digit b) (number_from (n * 10 + (b - 48)) bs) None
-
--- no higher than 32 bits hold
-abbrev pub capped : Option ℕ → Option ℕ
-capped None = None
-capped (Some n) = Some (min n (2 ^ 32 - 1))
-
--- a decimal number of one digit or more
+-- a decimal number of one digit or more, no higher than 32 bits hold
 abbrev pub decimal_of : List ℕ → Option ℕ
-decimal_of [] = None
-decimal_of (b ∷ bs) = capped (number_from 0 (b ∷ bs))
+decimal_of w = cond (not (length w == 0) && list_all is_ascii_digit w) (Some (min (digits_value 10 w) (2 ^ 32 - 1))) None
 
--- the number of the one character whose UTF-8 is all of the word
-abbrev pub only : List ℕ → List ℕ → Option ℕ
-only w [] = None
-only w (c ∷ []) = cond (scalar c && bytes_eq (encode c) w) (Some c) None
-only w (c ∷ d ∷ cs) = None
+-- the one element of a list, if it has one
+abbrev pub only : List ℕ → Option ℕ
+only (c ∷ []) = Some c
+only cs = None
 
+-- the number of the one character whose UTF-8 the word is
 abbrev pub character_of : List ℕ → Option ℕ
-character_of w = only w (chars w)
+character_of w = cond (is_utf8 w) (only (chars w)) None

@@ -1,8 +1,9 @@
 -- How letters are shown.
-use Rattle.std.specs.Prelude.{ℕ, Bool, cond, not, ◌&&◌, ◌||◌, List, [], ◌∷◌, ◌++◌, map, Some, None, codes, Option, ◌==◌, nat_le, nat_lt}
+use Rattle.std.specs.Prelude.{ℕ, Bool, cond, not, ◌&&◌, ◌||◌, List, ◌++◌, map, codes, ◌==◌, nat_le, nat_lt}
 use Rattle.std.proofs.Math.Utf8.{encode}
 use Rattle.std.specs.Char.{digit_char}
 use Rattle.std.specs.Int.Digits.{digits_of}
+use Rattle.std.specs.List.{flat_map}
 
 -- from the space to the tilde but for the backslash; from 161 on but for the surrogates
 abbrev pub is_printable : ℕ → Bool
@@ -15,16 +16,8 @@ hex_of n = cond (n == 0) (codes "0") (map digit_char (digits_of 16 n))
 abbrev pub escape_of : ℕ → List ℕ
 escape_of n = codes "\\u{" ++ (hex_of n ++ codes "}")
 
-abbrev pub printed : ℕ → Option ℕ
-printed n = cond (is_printable n) (Some n) None
-
-abbrev pub shown_as : Option ℕ → ℕ → List ℕ
-shown_as None n = escape_of n
-shown_as (Some c) n = encode c
-
 abbrev pub letter_shown : ℕ → List ℕ
-letter_shown n = shown_as (printed n) n
+letter_shown n = cond (is_printable n) (encode n) (escape_of n)
 
-unfoldable pub text_shown : List ℕ → List ℕ
-text_shown [] = []
-text_shown (n ∷ ns) = letter_shown n ++ text_shown ns
+abbrev pub text_shown : List ℕ → List ℕ
+text_shown ns = flat_map letter_shown ns

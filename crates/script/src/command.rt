@@ -1,9 +1,12 @@
 // What a line of a script asks for, or what is wrong with it.
-ghost use Rattle.std.specs.Prelude.{◌≡◌};
-ghost use Rattle.script.specs.Commands.{message_of};
+ghost use Rattle.std.specs.Prelude.{◌≡◌, Some};
+ghost use Rattle.script.specs.Commands.{verb_of, message_of};
+
+use std::error::Error;
+use std::fmt;
 
 // How many writers a script can name: 0 and up.
-pub const WRITERS: u32 = 4;
+pub const WRITERS: u8 = 4;
 
 // The words that a command begins with.
 #[derive(Clone, Copy, PartialEq, Eq, Debug)]
@@ -16,6 +19,26 @@ pub enum Verb {
     Stop,
     Settle,
     Show,
+}
+
+impl TryFrom<&[u8]> for Verb {
+    type Error = Fault;
+
+    ghost try_from_gives = { λ word r. r ≡ verb_of word.now };
+
+    fn try_from(word: &[u8]) -> Result<Verb, Fault> {
+        match word {
+            b"type" => Ok(Verb::Type),
+            b"strike" => Ok(Verb::Strike),
+            b"take" => Ok(Verb::Take),
+            b"see" => Ok(Verb::See),
+            b"new" => Ok(Verb::New),
+            b"stop" => Ok(Verb::Stop),
+            b"settle" => Ok(Verb::Settle),
+            b"show" => Ok(Verb::Show),
+            _ => Err(Fault::UnknownCommand),
+        }
+    }
 }
 
 #[derive(Clone, Copy, PartialEq, Eq, Debug)]
@@ -61,3 +84,13 @@ impl Fault {
         }
     }
 }
+
+impl fmt::Display for Fault {
+    ghost output = { λ fault. Some (message_of fault) };
+
+    fn fmt<W: fmt::Write>(&self, f: &mut fmt::Formatter<W>) -> fmt::Result {
+        f.write_str(self.message())
+    }
+}
+
+impl Error for Fault {}

@@ -9,29 +9,21 @@ pub(crate) fn decimal(word: &[u8]) -> Option<u32>
     if word.is_empty() {
         return None;
     }
-    let mut n: u32 = 0;
-    for b in word {
-        if !b.is_ascii_digit() {
-            return None;
-        }
-        n = n.saturating_mul(10).saturating_add(u32::from(*b - b'0'));
+    let mut number: u32 = 0;
+    for byte in word {
+        let digit = char::from(*byte).to_digit(10)?;
+        number = number.saturating_mul(10).saturating_add(digit);
     }
-    Some(n)
+    Some(number)
 }
 
 // The number of the one character that the word is, if it is one.
 pub(crate) fn character(word: &[u8]) -> Option<u32>
     ensures { result ≡ character_of word.now }
 {
-    let Ok(text) = std::str::from_utf8(word) else {
+    let mut letters = std::str::from_utf8(word).ok()?.chars();
+    let (Some(letter), None) = (letters.next(), letters.next()) else {
         return None;
     };
-    let mut chars = text.chars();
-    let Some(c) = chars.next() else {
-        return None;
-    };
-    match chars.next() {
-        Some(_) => None,
-        None => Some(u32::from(c)),
-    }
+    Some(u32::from(letter))
 }

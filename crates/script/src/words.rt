@@ -1,32 +1,42 @@
 // The words of a line, which stand between blanks.
-ghost use Rattle.std.specs.Prelude.{◌≡◌, ◌≤◌, true, false, length};
-ghost use Rattle.script.specs.Words.{is_blank, front, first_word, rest_of};
+ghost use Rattle.std.specs.Prelude.{◌≡◌};
+ghost use Rattle.std.specs.Iterator.{YieldsFirstRef, item_count};
+ghost use Rattle.script.specs.Words.{is_blank, words_of};
 
 // Is the byte a space, a tab or a carriage return?
 fn is_blank(b: u8) -> bool
     ensures { result ≡ is_blank b }
 {
-    b == b' ' || b == b'\t' || b == b'\r'
+    matches!(b, b' ' | b'\t' | b'\r')
 }
 
-// How many bytes at the front are blank, or with `blank` false how many are not.
-fn front_len(bytes: &[u8], blank: bool) -> usize
-    ensures value { result ≡ front blank bytes.now }
-    ensures bound { result ≤ length bytes.now }
-{
-    for (i, b) in bytes.iter().enumerate() {
-        if is_blank(*b) != blank {
-            return i;
-        }
+// The words of a line, in order.
+#[derive(Drop)]
+pub(crate) struct Words<'a> {
+    line: &'a [u8],
+}
+
+impl<'a> Words<'a> {
+    pub(crate) fn new(line: &'a [u8]) -> Words<'a>
+        ensures { result.line.now ≡ line.now }
+    {
+        Words { line }
     }
-    bytes.len()
 }
 
-// The first word of a line, empty if it has none, and what follows it.
-pub(crate) fn next_word(line: &[u8]) -> (&[u8], &[u8])
-    ensures word { result.0.now ≡ first_word line.now }
-    ensures rest { result.1.now ≡ rest_of line.now }
-{
-    let (_, line) = line.split_at(front_len(line, true));
-    line.split_at(front_len(line, false))
+impl<'a> Iterator for Words<'a> {
+    type Item = &'a [u8];
+
+    ghost next_gives = { YieldsFirstRef (λ s. words_of s.line.now) };
+
+    ghost remaining = { item_count (λ s. words_of s.line.now) };
+
+    fn next(&mut self) -> Option<&'a [u8]> {
+        let start = self.line.iter().position(|b| !is_blank(*b))?;
+        let line = &self.line[start..];
+        let end = line.iter().position(|b| is_blank(*b)).unwrap_or(line.len());
+        let (word, rest) = line.split_at(end);
+        self.line = rest;
+        Some(word)
+    }
 }

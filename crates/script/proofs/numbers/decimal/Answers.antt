@@ -1,26 +1,17 @@
-use Rattle.std.proofs.Common.{Some, sym, ap, ◌∙◌, arith}
-use Rattle.std.proofs.lemmas.Bool.{eqb-false}
-use Rattle.script.specs.Numbers.{capped}
-use Rattle.script.proofs.Digits.{number_end, number_stop, number_more, decimal_is}
+use Rattle.std.proofs.Common.{◌≡◌, ℕ, ◌<◌, true, ap, arith}
+use Rattle.std.specs.Char.{digit_value, is_ascii_digit}
+use Rattle.std.proofs.lemmas.Bool.Decides.{nat_tests}
+use Rattle.std.proofs.lemmas.Int.Digits.{digits_value_more}
+use Rattle.std.proofs.lemmas.List.Folds.{list_all_more}
 use Rattle.script.proofs.numbers.decimal.Goals as goal
 
-pub loop-b-init : goal.loop-b-init
-loop-b-init c =
+-- what has a value below ten is a digit
+is_ascii_digit-value : (c : ℕ) → digit_value c < 10 → is_ascii_digit c ≡ true
+is_ascii_digit-value c h = grind (arith, nat_tests)
+
+pub loop-byte-preserved : goal.loop-byte-preserved
+loop-byte-preserved c =
     let w = c.args.word.now in
-    let n = eqb-false _ 0 (sym c.if-is_empty.ensures) in
-    (omega arith, decimal_is w (omega arith))
-
-pub returns-then-not-is_ascii_digit : goal.returns-then-not-is_ascii_digit
-returns-then-not-is_ascii_digit c =
-    sym (c.loop-b.invariant.1 ∙ ap capped (number_stop c.loop-b.n c.args.word.now c.loop-b.b-index (sym c.if-not-is_ascii_digit.ensures.value) c.loop-b-test.true))
-
-pub loop-b-preserved : goal.loop-b-preserved
-loop-b-preserved c = (
-  omega arith,
-  c.loop-b.invariant.1 ∙ number_more c.loop-b.n c.saturating_add-n.result c.args.word.now c.loop-b.b-index
-      (sym c.if-not-is_ascii_digit.ensures.value) c.loop-b-test.true (omega arith),
-)
-
-pub returns : goal.returns
-returns c =
-    sym (c.loop-b.invariant.1 ∙ ap capped (number_end c.loop-b.n c.args.word.now c.loop-b.b-index c.loop-b-test.false) ∙ ap Some (omega arith))
+    let i = c.loop-byte.byte-index in
+    let digit = ap digit_value c.from.ensures in
+    (omega (arith, c.in_ok-digit.ensures.value, digits_value_more 10 w i c.loop-byte-test.true), grind (arith, is_ascii_digit-value, list_all_more is_ascii_digit w i 0 c.loop-byte-test.true))

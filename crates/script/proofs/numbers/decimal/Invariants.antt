@@ -1,6 +1,9 @@
-use Rattle.std.proofs.Common.{◌≡◌, ◌^◌, ◌<◌, drop}
-use Rattle.script.specs.Numbers.{number_from, capped, decimal_of}
+use Rattle.std.proofs.Common.{◌≡◌, ◌-◌, ◌^◌, min, true, take}
+use Rattle.std.specs.Char.{is_ascii_digit}
+use Rattle.std.specs.List.{list_all}
+use Rattle.std.specs.Str.Parse.{digits_value}
 use Rattle.script.proofs.numbers.decimal.Given as goal
 
-abbrev pub invariant-loop-b : goal.invariant-loop-b
-invariant-loop-b l = (l.n < 2 ^ 32) × (decimal_of l.word ≡ capped (number_from l.n (drop l.b-index l.word)))
+abbrev pub invariant-loop-byte : goal.invariant-loop-byte
+invariant-loop-byte l =
+    (l.number ≡ min (digits_value 10 (take l.byte-index l.word)) (2 ^ 32 - 1)) × (list_all is_ascii_digit (take l.byte-index l.word) ≡ true)
