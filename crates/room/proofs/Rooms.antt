@@ -1,9 +1,8 @@
 -- The peers of the room, one after another.
-use Rattle.std.proofs.Common.{◌≡◌, ℕ, zero, suc, ◌+◌, ◌<◌, ◌≤◌, Bool, true, false, ◌||◌, List, [], ◌∷◌, ◌++◌, map, length, take, get_or, set, vec_items, sym, refl, ap, ◌∙◌, arith}
-use Rattle.std.proofs.Math.Seq.{take-suc}
+use Rattle.std.proofs.Common.{◌≡◌, ℕ, zero, suc, ◌+◌, ◌<◌, ◌≤◌, Bool, ◌||◌, List, [], ◌∷◌, ◌++◌, map, length, take, get_or, set, vec_items, sym, refl, ap, ◌∙◌, arith}
 use Rattle.std.specs.List.{list_any}
 use Rattle.std.proofs.lemmas.List.{get_or-map, length-map, map-set, take_all}
-use Rattle.std.proofs.lemmas.List.Folds.{list_any-append}
+use Rattle.std.proofs.lemmas.List.Folds.{list_any_more}
 use Rattle.room.specs.declared.host.Host.{Host}
 use Rattle.room.specs.declared.peer.Peer.{Peer}
 use Rattle.room.specs.declared.room.Room.{Room}
@@ -43,19 +42,15 @@ each_more i f r = let next : i + 1 ≡ suc i = omega arith in ap (λ n. with_eac
 abbrev has_ended : RoomState → PeerState → Bool
 has_ended r w = ended (record { server = r.server; peer = w; events = r.events })
 
-or_false : (b : Bool) → b || false ≡ b
-or_false true = refl
-or_false false = refl
-
 any_of_first : (n : ℕ) (r : RoomState) → n ≤ length r.peers → any_ended n r ≡ list_any (has_ended r) (take n r.peers)
 unfolding any_ended
 any_of_first zero r h = refl
 any_of_first (suc n) r h =
     let below : n < length r.peers = omega arith in
     let before : n ≤ length r.peers = omega arith in
+    let next : suc n ≡ n + 1 = omega arith in
     ap (λ b. b || ended (scene n r)) (any_of_first n r before)
-    ∙ sym (ap (list_any (has_ended r)) (take-suc r.peers n (waiting n) below) ∙ list_any-append (has_ended r) (take n r.peers) (get_or r.peers n (waiting n) ∷ [])
-    ∙ ap (λ b. list_any (has_ended r) (take n r.peers) || b) (or_false (ended (scene n r))))
+    ∙ sym (ap (λ m. list_any (has_ended r) (take m r.peers)) next ∙ list_any_more (has_ended r) r.peers n (waiting n) below)
 
 list_any-map : {A B : Type 0} (p : B → Bool) (f : A → B) (xs : List A) → list_any p (map f xs) ≡ list_any (λ x. p (f x)) xs
 list_any-map p f [] = refl

@@ -1,6 +1,7 @@
 -- Seeing entries one after another.
 use Rattle.std.proofs.Common.{◌≡◌, ℕ, suc, ◌+◌, ◌-◌, ◌<◌, ◌≤◌, Bool, true, false, cond, length, Some, None, Option, ltb, is_none, sym, refl, ap, ◌∙◌, arith}
 use Rattle.std.proofs.lemmas.Bool.{ltb-true, ltb-false}
+use Rattle.std.proofs.lemmas.Option.{cond_some}
 use Rattle.operation.specs.declared.entry.Entry.{Entry}
 use Rattle.text.specs.Coded.{coded}
 use Rattle.client.specs.Replicas.{Replica, seen as seen_by}
@@ -14,10 +15,6 @@ unseen s = length s.server.history - s.peer.replica.revision
 none_from : {A : Type 0} (b : Bool) (x : A) → cond b (Some x) None ≡ None → b ≡ false
 none_from true x e = absurd (cc)
 none_from false x e = refl
-
-some_from : {A : Type 0} (b : Bool) (x y : A) → cond b (Some x) None ≡ Some y → b ≡ true
-some_from true x y e = refl
-some_from false x y e = absurd (cc)
 
 is_none_from : {A : Type 0} (o : Option A) → is_none o ≡ true → o ≡ None
 is_none_from None e = refl
@@ -41,9 +38,9 @@ see_none s e =
 
 -- entry e is the next
 module _ (s t : Scene) (e : Entry Op) (b : Bool) (next : next_entry s ≡ Some e)
-    (test : b ≡ is_none (see_refusal 65792 s.peer.site e s.peer.replica)) (after : t ≡ seen (see_refusal 65792 s.peer.site e s.peer.replica) e s) where
+    (test : b ≡ takes_entry (Some e) s) (after : t ≡ seeing_entry (Some e) s) where
   below : s.peer.replica.revision < length s.server.history
-  below = ltb-true _ _ (some_from (ltb s.peer.replica.revision (length s.server.history)) _ e next)
+  below = ltb-true _ _ (cond_some (ltb s.peer.replica.revision (length s.server.history)) _ e next).0
 
   turn : (n : ℕ) → unseen s ≡ suc n → seeing_all s ≡ cond b (seeing_up_to n t) t
   turn n k =
@@ -61,9 +58,6 @@ module _ (s t : Scene) (e : Entry Op) (b : Bool) (next : next_entry s ≡ Some e
       ∙ one_further _ _ _ (s.peer.replica.revision + 1) refl refl in
       let h = below in
       omega arith
-
-  pub see_nearer : b ≡ true → unseen t < unseen s
-  see_nearer is = let k = nearer is in omega arith
 
   -- it was seen, and the rest is to be seen from there
   pub see_more : b ≡ true → seeing_all s ≡ seeing_all t

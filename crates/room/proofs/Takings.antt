@@ -19,20 +19,20 @@ module _ (stop : Message Op → Bool) (f : Scene → Scene) where
   -- m has come, and es has been reported then; b: was it accepted
   module _ (s : Scene) (m : Message Op) (q : List (Message Op)) (i : ℕ) (b : Bool) (v : ServerState coded) (es : List Event)
       (front : s.peer.queue ≡ m ∷ q) (own : i ≡ s.peer.site)
-      (did : (b ≡ is_accepted (server_refusal i m s.server)) × (v ≡ server_after i m s.server) × (es ≡ s.events ++ refused_by (server_refusal i m s.server))) where
+      (test : b ≡ is_accepted (server_refusal i m s.server)) (after : v ≡ server_after i m s.server) (told : es ≡ s.events ++ refused_by (server_refusal i m s.server)) where
     abbrev then : Scene
     then = record { server = v; peer = without q s.peer; events = es }
 
     came : arriving m q s ≡ then
     came =
-        let after = ap (λ j. server_after j m s.server) (sym own) ∙ sym did.1 in
-        let told = ap (λ j. s.events ++ refused_by (server_refusal j m s.server)) (sym own) ∙ sym did.2 in
-        λ j. record { server = after j; peer = without q s.peer; events = told j }
+        let left = ap (λ j. server_after j m s.server) (sym own) ∙ sym after in
+        let events = ap (λ j. s.events ++ refused_by (server_refusal j m s.server)) (sym own) ∙ sym told in
+        λ j. record { server = left j; peer = without q s.peer; events = events j }
 
     turn : (c : Bool) → b && not (stop m) ≡ c → taking_until stop f s.peer.queue s ≡ cond c (taking_until stop f q then) then
     turn c e =
         ap (λ z. taking_until stop f z s) front ∙ step m q s
-        ∙ ap (λ d. cond d (taking_until stop f q (arriving m q s)) (arriving m q s)) (ap (λ a. a && not (stop m)) (ap (λ j. is_accepted (server_refusal j m s.server)) (sym own) ∙ sym did.0) ∙ e)
+        ∙ ap (λ d. cond d (taking_until stop f q (arriving m q s)) (arriving m q s)) (ap (λ a. a && not (stop m)) (ap (λ j. is_accepted (server_refusal j m s.server)) (sym own) ∙ sym test) ∙ e)
         ∙ ap (λ t. cond c (taking_until stop f q t) t) came
 
     -- more are taken from there

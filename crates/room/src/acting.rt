@@ -28,7 +28,7 @@ impl Peer {
             Action::Rejoin if self.has_joined() => self.name(host),
             Action::TakeAll if self.is_connected(host) => self.take_all(host),
             Action::SeeAll if self.is_connected(host) => self.see_all(host),
-            // What settling does is nothing for a peer that has not joined, or has no connection.
+            // Settling does nothing with a peer that has not joined, or has no connection.
             Action::Rejoin | Action::TakeAll | Action::SeeAll => Ok(()),
         }
     }

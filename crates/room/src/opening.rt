@@ -13,7 +13,8 @@ use text::document::{Document, RECORD_CAPACITY};
 impl Host {
     // The server with an empty text and history, and nothing to report.
     pub(crate) fn new(heap: Global) -> Result<Host, AllocError>
-        ensures { IfOk result (λ h. (hosted h ≡ opening.server) × (h.events.items ≡ opening.events)) }
+        ensures server { IfOk result (λ h. hosted h ≡ opening.server) }
+        ensures events { IfOk result (λ h. h.events.items ≡ opening.events) }
     {
         let text = Document::with_capacity(heap, RECORD_CAPACITY)?;
         Ok(Host {

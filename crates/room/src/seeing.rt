@@ -1,7 +1,6 @@
 // A peer sees entries of the history.
-ghost use Rattle.std.specs.Prelude.{◌≡◌, IfOk, OnOk, is_none};
-ghost use Rattle.client.specs.Clients.{see_refusal};
-ghost use Rattle.room.specs.Scenes.{peer_of, stage, seen, seeing, seeing_all};
+ghost use Rattle.std.specs.Prelude.{◌≡◌, IfOk, OnOk};
+ghost use Rattle.room.specs.Scenes.{stage, takes_entry, seeing_entry, seeing, seeing_all};
 
 use crate::event::Event;
 use crate::host::Host;
@@ -16,8 +15,8 @@ use text::document::Document;
 impl Peer {
     // The peer sees this entry, and sends its revision where that is due; or the refusal is reported. The answer is whether it was seen.
     fn see_entry(&mut self, host: &mut Host, entry: Entry) -> Result<bool, AllocError>
-        ensures { let refusal = see_refusal 65792 (peer_of self.old).site entry (peer_of self.old).replica in
-            IfOk result (λ b. (b ≡ is_none refusal) × (stage host.new self.new ≡ seen refusal entry (stage host.old self.old))) }
+        ensures answer { IfOk result (λ b. b ≡ takes_entry (Some entry) (stage host.old self.old)) }
+        ensures after { OnOk result (stage host.new self.new ≡ seeing_entry (Some entry) (stage host.old self.old)) }
     {
         // Seeing takes the client, so one without a text stands in its place meanwhile.
         let heap = *self.queue.allocator();

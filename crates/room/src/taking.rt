@@ -27,10 +27,9 @@ impl Host {
 
     // The same, with a refusal reported. The answer is whether there was none.
     fn receive(&mut self, site: u8, message: Message) -> Result<bool, AllocError>
-        ensures { let refusal = server_refusal site message (hosted self.old) in
-            IfOk result (λ b. (b ≡ is_accepted refusal)
-            × (hosted self.new ≡ server_after site message (hosted self.old))
-            × (self.new.events.items ≡ self.old.events.items ++ refused_by refusal)) }
+        ensures answer { IfOk result (λ b. b ≡ is_accepted (server_refusal site message (hosted self.old))) }
+        ensures host { OnOk result (hosted self.new ≡ server_after site message (hosted self.old)) }
+        ensures events { OnOk result (self.new.events.items ≡ self.old.events.items ++ refused_by (server_refusal site message (hosted self.old))) }
     {
         match self.accept(site, message) {
             Ok(()) => Ok(true),

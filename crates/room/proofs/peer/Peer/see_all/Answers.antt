@@ -7,14 +7,14 @@ pub loop-entry-preserved : goal.loop-entry-preserved
 loop-entry-preserved c =
     let s = stage c.loop-entry.host c.loop-entry.self in
     let next : next_entry s ≡ Some c.in-Some.entry = cc (c.entry.ensures, c.revision.ensures, c.in-Some.is) in
-    sym (see_more s (stage c.see_entry.new.host c.see_entry.new.self) c.in-Some.entry c.in_ok-see_entry.field-0 next c.in_ok-see_entry.ensures.0 c.in_ok-see_entry.ensures.1 c.if-not-branch.false)
+    sym (see_more s (stage c.see_entry.new.host c.see_entry.new.self) c.in-Some.entry c.in_ok-see_entry.field-0 next c.in_ok-see_entry.ensures.answer c.in_ok-see_entry.ensures.after c.if-not-branch.false)
     ∙ c.loop-entry.invariant
 
 pub returns-then-not-branch : goal.returns-then-not-branch
 returns-then-not-branch c =
     let s = stage c.loop-entry.host c.loop-entry.self in
     let next : next_entry s ≡ Some c.in-Some.entry = cc (c.entry.ensures, c.revision.ensures, c.in-Some.is) in
-    sym (see_last s (stage c.see_entry.new.host c.see_entry.new.self) c.in-Some.entry c.in_ok-see_entry.field-0 next c.in_ok-see_entry.ensures.0 c.in_ok-see_entry.ensures.1 c.if-not-branch.true)
+    sym (see_last s (stage c.see_entry.new.host c.see_entry.new.self) c.in-Some.entry c.in_ok-see_entry.field-0 next c.in_ok-see_entry.ensures.answer c.in_ok-see_entry.ensures.after c.if-not-branch.true)
     ∙ c.loop-entry.invariant
 
 pub returns-in_default : goal.returns-in_default

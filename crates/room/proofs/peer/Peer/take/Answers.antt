@@ -17,7 +17,7 @@ returns c =
 pub returns-then-not-branch : goal.returns-then-not-branch
 returns-then-not-branch c =
     let s = stage c.loop-message.host c.loop-message.self in
-    sym (take_last is_operation (reported (Nothing ∷ [])) s c.in-Some.message (deque_items c.pop_front.new.self) c.site.result c.in_ok-receive.field-0 _ _ c.in-Some.ensures.items c.site.ensures c.in_ok-receive.ensures
+    sym (take_last is_operation (reported (Nothing ∷ [])) s c.in-Some.message (deque_items c.pop_front.new.self) c.site.result c.in_ok-receive.field-0 _ _ c.in-Some.ensures.items c.site.ensures c.in_ok-receive.ensures.answer c.in_ok-receive.ensures.host c.in_ok-receive.ensures.events
     (elim c.then-not-branch.branch [
       | then-not-branch-via-then-not-branch w ↦ ap (λ b. b && not (is_operation c.in-Some.message)) w.if-not-branch.true
       | then-not-branch-via-else-not-branch+then-is_operation w ↦ ap₂ (λ b o. b && not o) w.if-not-branch.false (sym w.is_operation.ensures ∙ w.if-is_operation.true)
@@ -27,6 +27,6 @@ returns-then-not-branch c =
 pub loop-message-preserved : goal.loop-message-preserved
 loop-message-preserved c =
     let s = stage c.loop-message.host c.loop-message.self in
-    sym (take_more is_operation (reported (Nothing ∷ [])) s c.in-Some.message (deque_items c.pop_front.new.self) c.site.result c.in_ok-receive.field-0 _ _ c.in-Some.ensures.items c.site.ensures c.in_ok-receive.ensures
+    sym (take_more is_operation (reported (Nothing ∷ [])) s c.in-Some.message (deque_items c.pop_front.new.self) c.site.result c.in_ok-receive.field-0 _ _ c.in-Some.ensures.items c.site.ensures c.in_ok-receive.ensures.answer c.in_ok-receive.ensures.host c.in_ok-receive.ensures.events
     (ap₂ (λ b o. b && not o) c.if-not-branch.false (sym c.is_operation.ensures ∙ c.if-is_operation.false)))
     ∙ c.loop-message.invariant

@@ -7,13 +7,13 @@ use Rattle.room.proofs.peer.Peer.take_all.Goals as goal
 pub returns-then-not-branch : goal.returns-then-not-branch
 returns-then-not-branch c =
     let s = stage c.loop-message.host c.loop-message.self in
-    sym (take_last (λ m. false) (λ t. t) s c.in-Some.message (deque_items c.pop_front.new.self) c.site.result c.in_ok-receive.field-0 _ _ c.in-Some.ensures.items c.site.ensures c.in_ok-receive.ensures (ap (λ b. b && not false) c.if-not-branch.true))
+    sym (take_last (λ m. false) (λ t. t) s c.in-Some.message (deque_items c.pop_front.new.self) c.site.result c.in_ok-receive.field-0 _ _ c.in-Some.ensures.items c.site.ensures c.in_ok-receive.ensures.answer c.in_ok-receive.ensures.host c.in_ok-receive.ensures.events (ap (λ b. b && not false) c.if-not-branch.true))
     ∙ c.loop-message.invariant
 
 pub loop-message-preserved : goal.loop-message-preserved
 loop-message-preserved c =
     let s = stage c.loop-message.host c.loop-message.self in
-    sym (take_more (λ m. false) (λ t. t) s c.in-Some.message (deque_items c.pop_front.new.self) c.site.result c.in_ok-receive.field-0 _ _ c.in-Some.ensures.items c.site.ensures c.in_ok-receive.ensures (ap (λ b. b && not false) c.if-not-branch.false))
+    sym (take_more (λ m. false) (λ t. t) s c.in-Some.message (deque_items c.pop_front.new.self) c.site.result c.in_ok-receive.field-0 _ _ c.in-Some.ensures.items c.site.ensures c.in_ok-receive.ensures.answer c.in_ok-receive.ensures.host c.in_ok-receive.ensures.events (ap (λ b. b && not false) c.if-not-branch.false))
     ∙ c.loop-message.invariant
 
 pub returns-in_default : goal.returns-in_default
