@@ -32,7 +32,7 @@ impl Server {
         self.said(site).is_some()
     }
 
-    // How many entries the history has.
+    // How many entries the history has: never more than 32 bits hold.
     pub fn revision(&self) -> u32
         ensures { result ≡ length (history_of self.now) }
     {
