@@ -1,6 +1,6 @@
 // A peer joins, for the first time or anew.
 ghost use Rattle.std.specs.Prelude.{◌≡◌, ◌<◌, OnOk, is_some};
-ghost use Rattle.room.specs.Scenes.{hosted, peer_of, stage, connected, welcome, reconnected, arrived, joining, named};
+ghost use Rattle.room.specs.Scenes.{hosted, peer_of, stage, connected, ended, welcome, reconnected, arrived, joining, named};
 
 use crate::event::Event;
 use crate::host::Host;
@@ -34,6 +34,13 @@ impl Peer {
         ensures { result ≡ connected (stage host.now self.now) }
     {
         self.has_joined() && host.server.is_connected(self.client.site())
+    }
+
+    // Has the peer joined, and no connection any more?
+    pub(crate) fn has_ended(&self, host: &Host) -> bool
+        ensures { result ≡ ended (stage host.now self.now) }
+    {
+        self.has_joined() && !self.is_connected(host)
     }
 
     // The peer begins with the server's text and nothing pending.

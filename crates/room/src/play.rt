@@ -1,7 +1,7 @@
 // The room plays commands, one after another.
 ghost use Rattle.std.specs.Prelude.{◌≡◌, IfOk, OnOk};
 ghost use Rattle.text.specs.Texts.{numbers};
-ghost use Rattle.room.specs.Scenes.{stage, room_state, acting, opening, told, with_each, round, scene, ended, any_ended, settling, crashing, playing};
+ghost use Rattle.room.specs.Scenes.{room_state, acting, opening, told, with_each, round, scene, any_ended, settling, crashing, playing};
 
 use crate::action::Action;
 use crate::command::Command;
@@ -10,15 +10,6 @@ use crate::host::Host;
 use crate::peer::Peer;
 use crate::room::{PEERS, Room};
 use std::alloc::{AllocError, Global};
-
-impl Peer {
-    // Has the peer joined, and no connection any more?
-    fn has_ended(&self, host: &Host) -> bool
-        ensures { result ≡ ended (stage host.now self.now) }
-    {
-        self.has_joined() && !self.is_connected(host)
-    }
-}
 
 impl Room {
     // Nobody has joined, and the text is empty.
@@ -72,7 +63,7 @@ impl Room {
             .map_or(&[], |peer| peer.client.text().letters())
     }
 
-    // Something is done with all peers, by number.
+    // Something is done with all peers, by number. It is an action, as what a script asks for is: a closure would be a second way to name the same.
     fn ask_all(&mut self, action: Action) -> Result<(), AllocError>
         ensures { OnOk result (room_state self.new ≡ with_each 4 (acting action) (room_state self.old)) }
     {

@@ -1,6 +1,5 @@
 // The server takes what is under way from a peer.
-ghost use Rattle.std.specs.Prelude.{◌≡◌, ◌≢◌, ◌++◌, Err, IfOk, OnOk};
-ghost use Rattle.server.specs.declared.refusal.Refusal.TheVariants.{OutOfMemory};
+ghost use Rattle.std.specs.Prelude.{◌≡◌, ◌≢◌, ◌++◌, IfOk, OnOk};
 ghost use Rattle.room.specs.Scenes.{hosted, stage, refusal_of, refused_by, is_accepted, server_refusal, server_after, taking, taking_all};
 
 use crate::event::Event;
@@ -13,8 +12,8 @@ use std::alloc::AllocError;
 impl Host {
     // The server takes or hears what has come from a site.
     fn accept(&mut self, site: u8, message: Message) -> Result<(), Refusal>
-        ensures answer { result ≢ Err OutOfMemory → refusal_of result ≡ server_refusal site message (hosted self.old) }
-        ensures host { result ≢ Err OutOfMemory → hosted self.new ≡ server_after site message (hosted self.old) }
+        ensures answer { result ≢ Err Refusal.OutOfMemory → refusal_of result ≡ server_refusal site message (hosted self.old) }
+        ensures host { result ≢ Err Refusal.OutOfMemory → hosted self.new ≡ server_after site message (hosted self.old) }
         ensures events { self.new.events ≡ self.old.events }
     {
         match message {
@@ -44,6 +43,7 @@ impl Host {
     }
 }
 
+// Two loops, since they stop at different messages and end differently: one with a closure for each difference is longer.
 impl Peer {
     // The server takes the peer's oldest operation, with any revision before it.
     pub(crate) fn take(&mut self, host: &mut Host) -> Result<(), AllocError>
