@@ -39,7 +39,7 @@ pub(crate) fn announce(sessions: &mut [Session], from: usize, entry: Entry)
 }
 
 impl Server {
-    // The highest site that is free.
+    // The highest site that is free. There are few, so the casts here and below lose nothing.
     pub(crate) fn highest_free(&self) -> Option<u8>
         ensures { result ≡ highest_free 16 (seats self.now) }
     {
