@@ -5,6 +5,7 @@ use Rattle.std.proofs.lemmas.List.{get_or-take, length-take-le, length-drop, tak
 use Rattle.std.proofs.lemmas.List.Edits.{take-paste}
 use Rattle.operation.specs.declared.operation.Operation.{Operation}
 use Rattle.operation.specs.declared.operation.Operation.TheVariants.{Noop}
+use Rattle.operation.specs.Edits.{site}
 use Rattle.client.specs.declared.kind.Kind.{Kind}
 use Rattle.client.specs.declared.kind.Kind.TheVariants as kind
 use Rattle.client.specs.declared.pending.Pending.{Pending}
@@ -25,6 +26,12 @@ get_or-joined s (k ∷ ks) [] xs i h l m = absurd (omega arith)
 get_or-joined s (k ∷ ks) (p ∷ ps) [] i h l m = absurd (omega arith)
 get_or-joined s (k ∷ ks) (p ∷ ps) (x ∷ xs) zero h l m = refl
 get_or-joined s (k ∷ ks) (p ∷ ps) (x ∷ xs) (suc i) h l m = get_or-joined s ks ps xs i (omega arith) (omega arith) (omega arith)
+
+-- an operation that is made of the arrays is of their site
+pub own : (s : ℕ) (k : Kind) (p x : ℕ) → site (operation s k p x) ≡ s
+own s kind.Noop p x = refl
+own s kind.Insert p x = refl
+own s kind.Delete p x = refl
 
 set-joined : (s : ℕ) (ks : List Kind) (ps xs : List ℕ) (i : ℕ) (k : Kind) (p x : ℕ) →
     joined s (set ks i k) (set ps i p) (set xs i x) ≡ set (joined s ks ps xs) i (operation s k p x)

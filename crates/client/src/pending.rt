@@ -22,8 +22,7 @@ impl Slot {
 
     // The operation of a site that it stands for.
     fn operation(self, site: u8) -> Operation
-        ensures value { result ≡ operation_of site self }
-        ensures own { site_of result ≡ site }
+        ensures { result ≡ operation_of site self }
     {
         let Slot {
             kind,

@@ -20,7 +20,7 @@ pub enum Refusal {
 }
 
 impl Refusal {
-    // The number by which a refusal is reported.
+    // The number by which a refusal is reported. `u8::from` would not say which number that is.
     pub fn number(self) -> u8
         ensures { result ≡ number_of self }
     {

@@ -16,7 +16,7 @@ use std::alloc::Global;
 use std::io::{BufRead, BufReader, BufWriter, Write};
 use std::process::ExitCode;
 
-// What a command asks of the room; showing asks nothing.
+// What a command asks of the room; showing asks nothing. Both commands are types of other crates, so this is no `From`.
 fn asked_of_room(command: Command) -> Option<RoomCommand>
     ensures { result ≡ asked command }
 {

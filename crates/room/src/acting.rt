@@ -7,6 +7,7 @@ use crate::host::Host;
 use crate::peer::Peer;
 use std::alloc::AllocError;
 
+// An action is data, from a script or from settling: of a closure in its place a contract could only say what the closure's own says.
 impl Peer {
     pub(crate) fn act(&mut self, host: &mut Host, action: Action) -> Result<(), AllocError>
         ensures { OnOk result (stage host.new self.new ≡ acting action (stage host.old self.old)) }

@@ -9,19 +9,6 @@ use server::joined::Joined;
 use std::alloc::AllocError;
 use text::document::Document;
 
-impl Host {
-    // The site's connection ends, and it gets another.
-    fn connect(&mut self, site: u8) -> Joined
-        requires { site < 16 }
-        ensures answer { result ≡ welcome site (hosted self.old) }
-        ensures host { hosted self.new ≡ reconnected site (hosted self.old) }
-        ensures events { self.new.events ≡ self.old.events }
-    {
-        self.server.end(site);
-        self.server.join(site).unwrap()
-    }
-}
-
 impl Peer {
     pub(crate) fn has_joined(&self) -> bool
         ensures { result ≡ is_some self.now.performed }
@@ -43,6 +30,17 @@ impl Peer {
         self.has_joined() && !self.is_connected(host)
     }
 
+    // The connection of the peer's site ends, and the site gets another.
+    fn connect(&self, host: &mut Host) -> Joined
+        ensures answer { result ≡ welcome (peer_of self.now).site (hosted host.old) }
+        ensures host { hosted host.new ≡ reconnected (peer_of self.now).site (hosted host.old) }
+        ensures events { host.new.events ≡ host.old.events }
+    {
+        let site = self.client.site();
+        host.server.end(site);
+        host.server.join(site).unwrap()
+    }
+
     // The peer begins with the server's text and nothing pending.
     fn begin(&mut self, joined: Joined, text: &Document)
         requires site { joined.site < 16 }
@@ -61,7 +59,7 @@ impl Peer {
         ensures { OnOk result (stage host.new self.new ≡ joining (stage host.old self.old)) }
     {
         let site = self.client.site();
-        let joined = host.connect(site);
+        let joined = self.connect(host);
         if let Some(performed) = self.performed {
             let count = performed.saturating_sub(u64::from(joined.count));
             host.events.push(Event::Lost { site, count })?;

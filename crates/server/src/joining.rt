@@ -32,14 +32,14 @@ impl Server {
         self.said(site).is_some()
     }
 
-    // How many entries the history has.
+    // How many entries the history has: never more than 32 bits hold, so the cast is plainer than a conversion that can fail.
     pub fn revision(&self) -> u32
         ensures { result ≡ length (history_of self.now) }
     {
         self.history.len() as u32
     }
 
-    // The entry at a place of the history.
+    // The entry at a place of the history. The place is cast, since std has no `From` of a `u32` for a `usize`.
     pub fn entry(&self, place: u32) -> Option<Entry>
         ensures { result ≡ entry_at place (history_of self.now) }
     {

@@ -39,7 +39,7 @@ pub(crate) fn announce(sessions: &mut [Session], from: usize, entry: Entry)
 }
 
 impl Server {
-    // The highest site that is free.
+    // The highest site that is free. `SITES` is a small constant, so it is cast.
     pub(crate) fn highest_free(&self) -> Option<u8>
         ensures { result ≡ highest_free 16 (seats self.now) }
     {
@@ -48,7 +48,7 @@ impl Server {
             .find(|&site| !self.is_connected(site))
     }
 
-    // How many operations of the history are of the site.
+    // How many operations of the history are of the site: never more than 32 bits hold, so the number is cast.
     pub(crate) fn count_by(&self, site: u8) -> u32
         ensures { result ≡ site_count site (history_of self.now) }
     {

@@ -17,6 +17,7 @@ pub const HIGHEST_LETTER: u32 = 1_114_111;
 pub const RECORD_CAPACITY: usize = 65_536;
 
 // Why an operation is refused in a text of `len` letters with room for `room`, by the lowest number.
+// A place is cast to the width of a length, here and below: std has no `From` for that.
 fn check(op: Operation, len: usize, room: usize) -> Result<(), Refusal>
     ensures { refused result ≡ refusal_at room len op }
 {
