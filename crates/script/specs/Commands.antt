@@ -12,6 +12,7 @@ use Rattle.script.specs.declared.command.Fault.TheVariants.{UnknownCommand, Word
 use Rattle.script.specs.Words.{words_of}
 use Rattle.script.specs.Numbers.{decimal_of, character_of}
 
+-- what is printed of a fault
 abbrev pub message_of : Fault → List ℕ
 message_of UnknownCommand = codes "no such command"
 message_of (Words verb.Type) = codes "type wants a writer, a place and a letter"
@@ -31,6 +32,7 @@ abbrev pub named : List (List ℕ × Verb) → List ℕ → Result Verb Fault
 named [] w = Err UnknownCommand
 named ((name, v) ∷ more) w = cond (bytes_eq w name) (Ok v) (named more w)
 
+-- the verb of a command's first word
 abbrev pub verb_of : List ℕ → Result Verb Fault
 verb_of = named (
     (codes "type", verb.Type) ∷ (codes "strike", verb.Strike) ∷ (codes "take", verb.Take) ∷ (codes "see", verb.See)
@@ -47,12 +49,15 @@ abbrev pub present : Option ℕ → Result ℕ Fault
 present None = Err NoWriter
 present (Some n) = cond (nat_lt n 4) (Ok n) (Err NoWriter)
 
+-- a writer's word
 abbrev pub writer_of : List ℕ → Result ℕ Fault
 writer_of w = present (decimal_of w)
 
+-- a place's word
 abbrev pub place_of : List ℕ → Result ℕ Fault
 place_of w = ok_or (decimal_of w) BadPlace
 
+-- a letter's word: its number, or the letter itself
 abbrev pub letter_of : List ℕ → Result ℕ Fault
 letter_of w = ok_or (option_or (decimal_of w) (character_of w)) BadLetter
 
@@ -81,7 +86,7 @@ read_as verb.Settle [] = Ok command.Settle
 read_as verb.Show [] = Ok command.Show
 read_as v words = Err (Words v)
 
--- no word asks for nothing, and neither does a first word that begins with #
+-- the command in the words of a line: no word asks for nothing, and neither does a first word that begins with #
 abbrev pub command_in : List (List ℕ) → Result (Option Command) Fault
 command_in [] = Ok None
 command_in (first ∷ rest) = cond (starts_with nat_eq first (codes "#")) (Ok None) (do
@@ -89,5 +94,6 @@ command_in (first ∷ rest) = cond (starts_with nat_eq first (codes "#")) (Ok No
   c ← read_as v rest
   Ok (Some c))
 
+-- the command on a line; none on a line that is empty or a comment
 abbrev pub command_of : List ℕ → Result (Option Command) Fault
 command_of l = command_in (words_of l)

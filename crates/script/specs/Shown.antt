@@ -13,11 +13,14 @@ is_printable n = (nat_le 32 n && nat_le n 126 && not (n == 92)) || (nat_le 161 n
 abbrev pub hex_of : ℕ → List ℕ
 hex_of n = cond (n == 0) (codes "0") (map digit_char (digits_of 16 n))
 
+-- a letter by its number
 abbrev pub escape_of : ℕ → List ℕ
 escape_of n = codes "\\u{" ++ (hex_of n ++ codes "}")
 
+-- a letter as itself where it can be printed, else by its number
 abbrev pub letter_shown : ℕ → List ℕ
 letter_shown n = cond (is_printable n) (encode n) (escape_of n)
 
+-- the letters one after another
 abbrev pub text_shown : List ℕ → List ℕ
 text_shown ns = flat_map letter_shown ns

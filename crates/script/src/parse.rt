@@ -31,7 +31,7 @@ fn parse_letter(word: &[u8]) -> Result<u32, Fault>
         .ok_or(Fault::BadLetter)
 }
 
-// The words behind a verb, read as it wants: so many, and no more.
+// The words behind a verb, read as it wants: so many, and no more. No verb wants more than three.
 fn parse_rest(verb: Verb, mut words: Words<'_>) -> Result<Command, Fault>
     ensures { result ≡ read_as verb (words_of words.entry.line.now) }
 {
