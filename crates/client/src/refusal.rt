@@ -38,8 +38,8 @@ impl Refusal {
 impl From<TextRefusal> for Refusal {
     ghost from_gives = { λ e r. r ≡ reason e };
 
-    fn from(e: TextRefusal) -> Refusal {
-        match e {
+    fn from(refusal: TextRefusal) -> Refusal {
+        match refusal {
             TextRefusal::BadLetter => Refusal::BadLetter,
             TextRefusal::BeyondText => Refusal::BeyondText,
             TextRefusal::TextFull => Refusal::TextFull,

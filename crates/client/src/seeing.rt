@@ -45,17 +45,15 @@ impl Client {
         ensures answer { refused_seeing result ≡ reasons (refusal (client_of self).room (passed coded op (client_of self).replica).one (client_of self).replica.text) }
         ensures after { client_of (handed_back result) ≡ with_replica (unless (refused_seeing result) (received coded op (client_of self).replica) (client_of self).replica) (client_of self) }
     {
-        let before = self.pending;
-        let passed = self.pending.pass(op);
+        let mut pending = self.pending;
+        let passed = pending.pass(op);
         match self.text.apply(passed, usize::MAX) {
             Ok(()) => {
+                self.pending = pending;
                 self.revision += 1;
                 Ok(self)
             }
-            Err(refusal) => {
-                self.pending = before;
-                Err((self, refusal.into()))
-            }
+            Err(refusal) => Err((self, refusal.into())),
         }
     }
 

@@ -9,12 +9,15 @@ use room::command::Command as RoomCommand;
 use room::edit::Edit;
 use room::event::Event;
 use room::room::{PEERS, Room};
-use script::command::Command;
+use script::command::{Command, WRITERS};
 use script::parse::parse;
 use script::show::show;
 use std::alloc::Global;
 use std::io::{BufRead, BufReader, BufWriter, Write};
 use std::process::ExitCode;
+
+// Each writer that a script can name is a peer.
+const _: () = prove!(WRITERS == PEERS);
 
 // What a command asks of the room; showing asks nothing. Both commands are types of other crates, so this is no `From`.
 fn asked_of_room(command: Command) -> Option<RoomCommand>

@@ -9,6 +9,7 @@ use std::alloc::AllocError;
 
 // An action is data, from a script or from settling: of a closure in its place a contract could only say what the closure's own says.
 impl Peer {
+    // One action; a peer that a script names joins first.
     pub(crate) fn act(&mut self, host: &mut Host, action: Action) -> Result<(), AllocError>
         ensures { OnOk result (stage host.new self.new ≡ acting action (stage host.old self.old)) }
     {

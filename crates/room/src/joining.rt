@@ -38,6 +38,7 @@ impl Peer {
     {
         let site = self.client.site();
         host.server.end(site);
+        // The site has just become free.
         host.server.join(site).unwrap()
     }
 

@@ -20,7 +20,7 @@ impl Peer {
     {
         // Seeing takes the client, so one without a text stands in its place meanwhile.
         let heap = *self.queue.allocator();
-        let absent = Client::new(self.client.site(), 0, Document::with_capacity(heap, 0)?);
+        let absent = Client::new(self.client.site(), 0, Document::new(heap));
         match mem::replace(&mut self.client, absent).see(entry) {
             Ok(client) => {
                 self.client = client;

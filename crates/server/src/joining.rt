@@ -10,7 +10,7 @@ use operation::entry::Entry;
 use text::document::Document;
 
 impl Server {
-    // The text after the whole history.
+    // The text after the whole history, if it was empty at first.
     pub fn text(&self) -> &Document
         ensures { result.now ≡ text_of self.now }
     {
@@ -89,7 +89,7 @@ impl Server {
         self.highest_free()
     }
 
-    // A client joins.
+    // A client joins, or is refused where every site has a client.
     pub fn join(&mut self, wanted: u8) -> Result<Joined, Refusal>
         ensures answer { result ≡ join_answer (site_for wanted (seats self.old)) (state_of self.old) }
         ensures after { Leaves self.old self.new (join_after (site_for wanted (seats self.old)) (state_of self.old)) }

@@ -44,7 +44,7 @@ impl From<AllocError> for Refusal {
 
     ghost from_gives = { λ _ refusal. refusal ≡ OutOfMemory };
 
-    fn from(_error: AllocError) -> Refusal {
+    fn from(_: AllocError) -> Refusal {
         Refusal::OutOfMemory
     }
 }

@@ -23,7 +23,7 @@ fn replay(history: &[Operation], text: &mut Document) -> Result<(), Refusal>
 }
 
 impl Server {
-    // The history is empty and nobody is connected.
+    // The history is empty and nobody is connected. The text is as it is given.
     #[tactic(auto, using(crate::proofs::Seats::all_free))]
     pub fn new(heap: Global, text: Document) -> Result<Server, AllocError>
         ensures { IfOk result (λ v. (text_of v ≡ text) × (state_of v ≡ started text.letters)) }

@@ -16,10 +16,10 @@ use text::document::RECORD_CAPACITY;
 use text::refusal::Refusal as TextRefusal;
 
 // Refuses an operation by the lowest number: for what the text says to it, a bad revision, or a full history.
-fn lowest(reason: Result<(), TextRefusal>, bad: bool, full: bool) -> Result<(), Refusal>
-    ensures { result ≡ answered (lowest_of (refused reason) bad full) tt }
+fn lowest(answer: Result<(), TextRefusal>, bad: bool, full: bool) -> Result<(), Refusal>
+    ensures { result ≡ answered (lowest_of (refused answer) bad full) tt }
 {
-    match reason {
+    match answer {
         Err(TextRefusal::BadLetter) => Err(Refusal::BadLetter),
         Err(TextRefusal::BeyondText) => Err(Refusal::BeyondText),
         _ if bad => Err(Refusal::BadRevision),
@@ -60,6 +60,7 @@ impl Server {
             op,
         };
         self.history.push_reserved(op);
+        // What the text refuses is not done to it, and the caller has asked it.
         let _ = self.text.apply(op, RECORD_CAPACITY);
         announce(self.sessions.as_mut_slice(), usize::from(site), entry);
         entry
@@ -75,8 +76,8 @@ impl Server {
         let site = submission.op.site();
         let bad = self.is_bad(site, submission.revision);
         let op = self.arrive(submission);
-        let reason = self.text.check(op, RECORD_CAPACITY);
-        if let Err(refusal) = lowest(reason, bad, self.is_full()) {
+        let answer = self.text.check(op, RECORD_CAPACITY);
+        if let Err(refusal) = lowest(answer, bad, self.is_full()) {
             self.end(site);
             return Err(refusal);
         }

@@ -66,6 +66,18 @@ impl Model for Document {
 }
 
 impl Document {
+    // An empty text with room for no letter, which needs no memory.
+    #[tactic(auto, unfolding(crate::specs::Texts::paired))]
+    pub fn new(heap: Global) -> Document
+        ensures { result ≡ record { letters = []; room = 0 } }
+    {
+        Document {
+            letters: Vec::new(heap),
+            sites: Vec::new(heap),
+            room: 0,
+        }
+    }
+
     // An empty text with room for `capacity` letters.
     #[tactic(auto, unfolding(crate::specs::Texts::paired))]
     pub fn with_capacity(heap: Global, capacity: usize) -> Result<Document, AllocError>
@@ -87,7 +99,8 @@ impl Document {
 
     #[tactic(auto, using(crate::proofs::Views::sizes))]
     pub fn len(&self) -> usize
-        ensures { result ≡ length self.now.letters }
+        ensures value { result ≡ length self.now.letters }
+        ensures bound { result ≤ self.now.room }
     {
         self.letters.len()
     }
@@ -178,7 +191,7 @@ impl Document {
         ensures text { self.new ≡ with_letters (copied self.old.room other.now.letters self.old.letters) self.old }
         ensures fits { other.now.room ≤ self.old.room → IsOk result }
     {
-        if other.letters.len() > self.capacity() {
+        if other.len() > self.capacity() {
             return Err(Refusal::TextFull);
         }
         self.clear();

@@ -1,4 +1,4 @@
-use Rattle.std.proofs.Common.{rules, ◌≡◌, ◌<◌, ◌≤◌, [], length, ap, ◌∙◌, ap₂, arith}
+use Rattle.std.proofs.Common.{rules, ◌≡◌, [], length, ap, ◌∙◌, ap₂, arith}
 use Rattle.std.proofs.lemmas.List.{nil_from_length}
 use Rattle.std.proofs.lemmas.Bool.{le-leb}
 use Rattle.text.specs.Texts.{paired}
@@ -6,30 +6,12 @@ use Rattle.text.specs.Documents.{TextState, with_letters}
 use Rattle.text.proofs.Views.{sizes}
 use Rattle.text.proofs.document.Document.copy_from.Goals as goal
 
-pub returns-then-len-capacity-clause-answer : goal.returns-then-len-capacity-clause-answer
-returns-then-len-capacity-clause-answer c =
-    let o = sizes c.other.inside c.args.other.now c.other.view_is c.other.invariant in
-    let h : c.args.self.now.room < length c.args.other.now.letters = omega arith in
-    search rules
-
-pub returns-then-len-capacity-clause-text : goal.returns-then-len-capacity-clause-text
-returns-then-len-capacity-clause-text c =
-    let o = sizes c.other.inside c.args.other.now c.other.view_is c.other.invariant in
-    let h : c.args.self.now.room < length c.args.other.now.letters = omega arith in
-    search rules
-
 pub invariant_of-self : goal.invariant_of-self
 invariant_of-self c =
     let s = sizes c.self.inside c.clear.new.self c.self.view_is c.self.invariant in
     let o = sizes c.other.inside c.args.other.now c.other.view_is c.other.invariant in
     let room = ap (λ (t : TextState). t.room) c.clear.ensures in
     let none = ap (λ (t : TextState). length t.letters) c.clear.ensures in
-    search rules
-
-pub returns-clause-answer : goal.returns-clause-answer
-returns-clause-answer c =
-    let o = sizes c.other.inside c.args.other.now c.other.view_is c.other.invariant in
-    let h : length c.args.other.now.letters ≤ c.args.self.now.room = omega arith in
     search rules
 
 pub returns-clause-text : goal.returns-clause-text
