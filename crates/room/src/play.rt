@@ -63,7 +63,7 @@ impl Room {
             .map_or(&[], |peer| peer.client.text().letters())
     }
 
-    // Something is done with all peers, by number. It is an action, as what a script asks for is: a closure would be a second way to name the same.
+    // Something is done with all peers, by number.
     fn ask_all(&mut self, action: Action) -> Result<(), AllocError>
         ensures { OnOk result (room_state self.new ≡ with_each 4 (acting action) (room_state self.old)) }
     {
