@@ -16,10 +16,8 @@ fn when_full(answer: Result<(), TextRefusal>) -> Refusal
     ensures { Some result ≡ lowest (refused answer) true }
 {
     match answer {
-        Ok(()) => Refusal::PendingFull,
-        Err(TextRefusal::BadLetter) => Refusal::BadLetter,
-        Err(TextRefusal::BeyondText) => Refusal::BeyondText,
-        Err(TextRefusal::TextFull) => Refusal::PendingFull,
+        Ok(()) | Err(TextRefusal::TextFull) => Refusal::PendingFull,
+        Err(refusal) => refusal.into(),
     }
 }
 

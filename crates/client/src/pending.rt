@@ -60,8 +60,9 @@ impl From<Operation> for Slot {
     }
 }
 
-// The list is the first `count` places of the three arrays.
-// That the site stays is a clause of each method: with a model instead, the struct could not be `Copy`, since a list does not give back what lies behind it.
+// The list is the first `count` places of the three arrays, which a rule of the project asks for.
+// The site stands here, though each method then says that it stays: without it the list would be one of slots, which every caller had
+// to turn into operations of its site.
 #[derive(Clone, Copy)]
 pub(crate) struct Pending {
     site: u8,

@@ -54,7 +54,7 @@ impl Room {
             .is_some_and(|peer| peer.has_joined())
     }
 
-    // The letters of a peer's text; of one that there is not, none.
+    // The letters of a peer's text; of one that there is not, none. One that has not joined has an empty text, so this is no `Option`.
     pub fn letters_of(&self, peer: u8) -> &[u32]
         ensures { result.now ≡ numbers (scene peer (room_state self.now)).peer.replica.text }
     {

@@ -5,7 +5,7 @@ ghost use Rattle.server.specs.Sessions.{unseen};
 use operation::entry::Entry;
 
 // Leaves out the entries below `revision` and closes up in place. The answer is how many are left.
-// An index goes through the list, since it is written while it is read.
+// A loop of its own, with an index, by a rule of the project: `retain` would do the same.
 pub(crate) fn keep_unseen(list: &mut [Entry], revision: u32) -> usize
     ensures few { result ≤ length list.old }
     ensures kept { take result list.new ≡ unseen revision list.old }

@@ -83,7 +83,7 @@ impl Server {
     fn choose(&self, wanted: u8) -> Option<u8>
         ensures { result ≡ site_for wanted (seats self.now) }
     {
-        if usize::from(wanted) < SITES && !self.is_connected(wanted) {
+        if wanted < SITES && !self.is_connected(wanted) {
             return Some(wanted);
         }
         self.highest_free()

@@ -39,13 +39,11 @@ pub(crate) fn announce(sessions: &mut [Session], from: usize, entry: Entry)
 }
 
 impl Server {
-    // The highest site that is free. `SITES` is a small constant, so it is cast.
+    // The highest site that is free.
     pub(crate) fn highest_free(&self) -> Option<u8>
         ensures { result ≡ highest_free 16 (seats self.now) }
     {
-        (0..SITES as u8)
-            .rev()
-            .find(|&site| !self.is_connected(site))
+        (0..SITES).rev().find(|&site| !self.is_connected(site))
     }
 
     // How many operations of the history are of the site: never more than 32 bits hold, so the number is cast.

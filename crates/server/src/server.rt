@@ -6,7 +6,7 @@ use operation::operation::Operation;
 use text::document::Document;
 
 // How many sites there are: a client has a site of its own.
-pub const SITES: usize = 16;
+pub const SITES: u8 = 16;
 
 #[derive(Drop)]
 pub struct Server {

@@ -44,8 +44,8 @@ fn check(op: Operation, len: usize, room: usize) -> Result<(), Refusal>
     }
 }
 
-// The letters and the site of each are two vectors, since the letters are lent as a slice of 32-bit numbers. Both have memory for
-// `room` letters, so that an insertion needs none.
+// The letters and the site of each are two vectors, since by a rule of the project the letters are lent as a slice of 32-bit numbers.
+// Both have memory for `room` letters, so that an insertion needs none; they may have more.
 #[derive(Drop)]
 pub struct Document {
     letters: Vec<u32>,
@@ -113,6 +113,7 @@ impl Document {
     }
 
     // Puts a letter in before the one at `place`, or at the end.
+    #[tactic(auto, using(crate::proofs::Views::sizes))]
     fn insert(&mut self, place: usize, letter: u32, site: u8)
         requires within { place ≤ length self.old.letters }
         requires has_room { length self.old.letters < self.old.room }
@@ -130,6 +131,7 @@ impl Document {
     }
 
     // Takes the letter at `place` away.
+    #[tactic(auto, using(crate::proofs::Views::sizes))]
     fn delete(&mut self, place: usize)
         requires { place < length self.old.letters }
         ensures { self.new ≡ with_letters (delete_at place self.old.letters) self.old }
@@ -186,6 +188,7 @@ impl Document {
 
     // Takes over the other's text, or refuses it where there is no room, and changes nothing. Where there is as much room as in the
     // other it is never refused.
+    #[tactic(auto, using(crate::proofs::Views::sizes))]
     pub fn copy_from(&mut self, other: &Document) -> Result<(), Refusal>
         ensures answer { refused result ≡ copy_refusal self.old.room other.now.letters }
         ensures text { self.new ≡ with_letters (copied self.old.room other.now.letters self.old.letters) self.old }

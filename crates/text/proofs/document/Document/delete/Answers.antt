@@ -7,9 +7,6 @@ use Rattle.text.proofs.Pairs.{take-paired}
 use Rattle.text.proofs.Views.{sizes}
 use Rattle.text.proofs.document.Document.delete.Goals as goal
 
-pub delete-requires-clause-within : goal.delete-requires-clause-within
-delete-requires-clause-within c = let s = sizes c.self.inside c.args.self.now c.self.view_is c.self.invariant in omega arith
-
 pub returns : goal.returns
 returns c =
     let p = c.args.place in

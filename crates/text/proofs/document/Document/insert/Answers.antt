@@ -7,15 +7,6 @@ use Rattle.text.proofs.Pairs.{paired-pushed}
 use Rattle.text.proofs.Views.{sizes}
 use Rattle.text.proofs.document.Document.insert.Goals as goal
 
-pub push_reserved-requires : goal.push_reserved-requires
-push_reserved-requires c = let s = sizes c.self.inside c.args.self.now c.self.view_is c.self.invariant in omega arith
-
-pub push_reserved-requires-2 : goal.push_reserved-requires-2
-push_reserved-requires-2 c = let s = sizes c.self.inside c.args.self.now c.self.view_is c.self.invariant in omega arith
-
-pub insert-requires-clause-within : goal.insert-requires-clause-within
-insert-requires-clause-within c = let s = sizes c.self.inside c.args.self.now c.self.view_is c.self.invariant in omega arith
-
 pub invariant_of-self : goal.invariant_of-self
 invariant_of-self c =
     let s = sizes c.self.inside c.args.self.now c.self.view_is c.self.invariant in
