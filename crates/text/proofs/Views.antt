@@ -1,9 +1,10 @@
 -- What is known of a document's fields, read from its text.
-use Rattle.std.proofs.Common.{◌≡◌, ◌≤◌, length, vec_capacity, ap, arith}
+use Rattle.std.proofs.Common.{◌≡◌, ◌≤◌, length, vec_capacity, sym, ap, ◌∙◌, arith}
 use Rattle.text.specs.declared.document.Document.TheInside.{Inside}
 use Rattle.text.specs.contracts.document.Document.{the_view, the_invariant}
+use Rattle.text.specs.Texts.{numbers, authors}
 use Rattle.text.specs.Documents.{TextState}
-use Rattle.text.proofs.Pairs.{length-paired}
+use Rattle.text.proofs.Pairs.{length-paired, numbers-paired, authors-paired}
 
 pub record Sizes (d : Inside) (t : TextState) : Type 0 where
   pub letters : length d.letters.items ≡ length t.letters
@@ -26,3 +27,10 @@ sizes d t e i =
       letters_memory = omega arith;
       sites_memory = omega arith;
     }
+
+-- each vector, read from the text
+pub numbers_are : (d : Inside) (t : TextState) → the_view d ≡ t → the_invariant d → d.letters.items ≡ numbers t.letters
+numbers_are d t e i = sym (numbers-paired _ _ i.level) ∙ ap (λ (v : TextState). numbers v.letters) e
+
+pub authors_are : (d : Inside) (t : TextState) → the_view d ≡ t → the_invariant d → d.sites.items ≡ authors t.letters
+authors_are d t e i = sym (authors-paired _ _ i.level) ∙ ap (λ (v : TextState). authors v.letters) e

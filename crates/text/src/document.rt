@@ -173,6 +173,7 @@ impl Document {
     }
 
     // The letters' numbers, in order.
+    #[tactic(auto, using(crate::proofs::Views::numbers_are))]
     pub fn letters(&self) -> &[u32]
         ensures { result.now ≡ numbers self.now.letters }
     {
@@ -180,6 +181,7 @@ impl Document {
     }
 
     // The site of each letter, in the same order.
+    #[tactic(auto, using(crate::proofs::Views::authors_are))]
     pub fn sites(&self) -> &[u8]
         ensures { result.now ≡ authors self.now.letters }
     {
