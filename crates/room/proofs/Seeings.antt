@@ -1,5 +1,5 @@
 -- Seeing entries one after another.
-use Rattle.std.proofs.Common.{◌≡◌, ℕ, suc, ◌+◌, ◌-◌, ◌<◌, ◌≤◌, Bool, true, false, cond, length, Some, None, Option, ltb, is_none, sym, refl, ap, ◌∙◌, arith}
+use Rattle.std.proofs.Common.{◌≡◌, ℕ, suc, ◌+◌, ◌-◌, ◌<◌, ◌≤◌, Bool, true, false, cond, length, Some, None, Option, ltb, is_none, refl, ap, ◌∙◌, arith}
 use Rattle.std.proofs.lemmas.Bool.{ltb-true, ltb-false}
 use Rattle.std.proofs.lemmas.Option.{cond_some}
 use Rattle.operation.specs.declared.entry.Entry.{Entry}
@@ -37,35 +37,34 @@ see_none s e =
     ap (λ n. seeing_up_to n s) z
 
 -- entry e is the next
-module _ (s t : Scene) (e : Entry Op) (b : Bool) (next : next_entry s ≡ Some e)
-    (test : b ≡ takes_entry (Some e) s) (after : t ≡ seeing_entry (Some e) s) where
+module _ (s : Scene) (e : Entry Op) (next : next_entry s ≡ Some e) where
+  abbrev then : Scene
+  then = seeing_entry (Some e) s
+
   below : s.peer.replica.revision < length s.server.history
   below = ltb-true _ _ (cond_some (ltb s.peer.replica.revision (length s.server.history)) _ e next).0
 
-  turn : (n : ℕ) → unseen s ≡ suc n → seeing_all s ≡ cond b (seeing_up_to n t) t
-  turn n k =
-      ap (λ m. seeing_up_to m s) k ∙ step n s ∙ ap (λ c. cond c (seeing_up_to n (seeing s)) (seeing s)) (ap (λ o. takes_entry o s) next ∙ sym test)
-      ∙ ap (λ u. cond b (seeing_up_to n u) u) (ap (λ o. seeing_entry o s) next ∙ sym after)
+  turn : (b : Bool) → takes_entry (Some e) s ≡ b → (n : ℕ) → unseen s ≡ suc n → seeing_all s ≡ cond b (seeing_up_to n then) then
+  turn b test n k =
+      ap (λ m. seeing_up_to m s) k ∙ step n s ∙ ap (λ o. cond (takes_entry o s) (seeing_up_to n (seeing_entry o s)) (seeing_entry o s)) next
+      ∙ ap (λ c. cond c (seeing_up_to n then) then) test
 
   -- one entry less is left
-  nearer : b ≡ true → unseen s ≡ suc (unseen t)
-  nearer is =
-      let none = is_none_from (see_refusal 65792 s.peer.site e s.peer.replica) (sym test ∙ is) in
-      let history : length t.server.history ≡ length s.server.history = ap (λ u. length u.server.history) after ∙ ap (λ r. length (seen r e s).server.history) none in
-      let revision : t.peer.replica.revision ≡ s.peer.replica.revision + 1 =
-      ap (λ u. u.peer.replica.revision) after ∙ ap (λ r. (seen r e s).peer.replica.revision) none
+  nearer : takes_entry (Some e) s ≡ true → unseen s ≡ suc (unseen then)
+  nearer test =
+      let none = is_none_from (see_refusal 65792 s.peer.site e s.peer.replica) test in
+      let history : length then.server.history ≡ length s.server.history = ap (λ r. length (seen r e s).server.history) none in
+      let revision : then.peer.replica.revision ≡ s.peer.replica.revision + 1 =
+      ap (λ r. (seen r e s).peer.replica.revision) none
       ∙ ap (λ r. (unless r (seen_by coded s.peer.site e.op s.peer.replica) s.peer.replica).revision) none
       ∙ one_further _ _ _ (s.peer.replica.revision + 1) refl refl in
       let h = below in
       omega arith
 
-  -- it was seen, and the rest is to be seen from there
-  pub see_more : b ≡ true → seeing_all s ≡ seeing_all t
-  see_more is = turn (unseen t) (nearer is) ∙ ap (λ c. cond c (seeing_all t) t) is
+  by_test : (b : Bool) → takes_entry (Some e) s ≡ b → seeing_all s ≡ cond b (seeing_all then) then
+  by_test true test = turn true test (unseen then) (nearer test)
+  by_test false test = let h = below in let k : unseen s ≡ suc (unseen s - 1) = omega arith in turn false test (unseen s - 1) k
 
-  -- it was not, and that is the end
-  pub see_last : b ≡ false → seeing_all s ≡ t
-  see_last is =
-      let h = below in
-      let k : unseen s ≡ suc (unseen s - 1) = omega arith in
-      turn (unseen s - 1) k ∙ ap (λ c. cond c (seeing_up_to (unseen s - 1) t) t) is
+  -- the rest is to be seen from there, or it was refused, and that is the end
+  pub see_some : seeing_all s ≡ cond (takes_entry (Some e) s) (seeing_all then) then
+  see_some = by_test (takes_entry (Some e) s) refl

@@ -12,7 +12,7 @@ freed i f g h e =
     rw (lt-ltb i 16 h) (ap (λ (s : Seat Op). cond s.connected (highest_free 16 f) (Some i)) (e ∙ ap (λ b. cond b free (g i)) (eq-eqb i i refl)))
 
 -- v: the state where the connection of site i has ended, which was w
-module _ (i : ℕ) (v w : ServerState coded) (h : i < 16) (end : v ≡ with_seat i free w) where
+module _ {i : ℕ} {v : ServerState coded} (w : ServerState coded) (h : i < 16) (end : v ≡ with_seat i free w) where
   own : site_for i v.seats ≡ Some i
   own = freed i v.seats w.seats h (ap (λ (u : ServerState coded). u.seats i) end)
 

@@ -45,6 +45,7 @@ impl Host {
 // Two loops, since they stop at different messages and end differently: one with a closure for each difference is longer.
 impl Peer {
     // The server takes the peer's oldest operation, with any revision before it.
+    #[tactic(auto, using(std::proofs::lemmas::List::nil_from_length), unfolding(crate::specs::Scenes::taking_until))]
     pub(crate) fn take(&mut self, host: &mut Host) -> Result<(), AllocError>
         ensures { OnOk result (stage host.new self.new ≡ taking (stage host.old self.old)) }
     {
@@ -58,6 +59,7 @@ impl Peer {
     }
 
     // The server takes all that is under way from the peer, as long as nothing is refused.
+    #[tactic(auto, using(std::proofs::lemmas::List::nil_from_length), unfolding(crate::specs::Scenes::taking_until))]
     pub(crate) fn take_all(&mut self, host: &mut Host) -> Result<(), AllocError>
         ensures { OnOk result (stage host.new self.new ≡ taking_all (stage host.old self.old)) }
     {

@@ -45,7 +45,7 @@ word_kept : (w : List ℕ) (parts : List (List ℕ)) → 0 < length w → filter
 word_kept w parts h = cond-true (not (length w == 0)) _ _ (ap not (ne_eqb (length w) 0 (λ e. omega arith)))
 
 -- the word in front ends at the first blank, or with the line
-pub words_of-word : (l : List ℕ) (o : Option ℕ) → position is_blank l ≡ o → is_blank (get_or l 0 0) ≡ false → 0 < length l →
+words_of-word : (l : List ℕ) (o : Option ℕ) → position is_blank l ≡ o → is_blank (get_or l 0 0) ≡ false → 0 < length l →
     words_of l ≡ take (unwrap_or o (length l)) l ∷ words_of (drop (unwrap_or o (length l)) l)
 unfolding words_of
 words_of-word l None e f h =
