@@ -30,10 +30,6 @@ module _ (h : Host) (ws : List Peer) (i : ℕ) (d : Peer) (below : i < length ws
       ap (λ zs. record { server = hosted k; peers = zs; events = vec_items k.events }) (map-set peer_of ws i y)
       ∙ ap (λ (s : Scene). record { server = s.server; peers = set (map peer_of ws) i s.peer; events = s.events }) (e ∙ ap f on_stage)
 
-pub each_none : (f : Scene → Scene) (r : RoomState) → with_each 0 f r ≡ r
-unfolding with_each
-each_none f r = refl
-
 pub each_more : (i : ℕ) (f : Scene → Scene) (r : RoomState) → with_each (i + 1) f r ≡ with i f (with_each i f r)
 unfolding with_each
 each_more i f r = let next : i + 1 ≡ suc i = omega arith in ap (λ n. with_each n f r) next

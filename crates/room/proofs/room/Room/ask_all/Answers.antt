@@ -1,10 +1,11 @@
-use Rattle.std.proofs.Common.{sym, ap, ◌∙◌, arith}
-use Rattle.room.specs.Scenes.{acting, with}
-use Rattle.room.proofs.Rooms.{done_with, each_none, each_more}
+use Rattle.std.proofs.Common.{sym, refl, ap, ◌∙◌, arith}
+use Rattle.room.specs.Scenes.{acting, with, with_each}
+use Rattle.room.proofs.Rooms.{done_with, each_more}
 use Rattle.room.proofs.room.Room.ask_all.Goals as goal
 
 pub loop-peer-init : goal.loop-peer-init
-loop-peer-init c = sym (each_none (acting c.args.action) _)
+unfolding with_each
+loop-peer-init c = refl
 
 pub loop-peer-preserved : goal.loop-peer-preserved
 loop-peer-preserved c =
