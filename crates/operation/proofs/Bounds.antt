@@ -43,7 +43,7 @@ module _ {A : Type 0} where
   fits_room n (Insert i p x) t h f = omega arith
   fits_room n (Delete i p) t h f = omega arith
 
-  length-apply : (a : Operation A) (t : List A) → Fits a t → length (apply a t) ≤ length t + 1
+  pub length-apply : (a : Operation A) (t : List A) → Fits a t → length (apply a t) ≤ length t + 1
   length-apply (Noop i) t f = omega arith
   length-apply (Insert i p x) t f = omega (arith, length-insert_at p x t)
   length-apply (Delete i p) t f = omega (arith, length-delete_at p t f)

@@ -58,14 +58,15 @@ module _ {A B : Type 0} (f : A → B) where
   fits_renamed (Insert i p x) t h = subst (λ n. p ≤ n) (length-map t f) h
   fits_renamed (Delete i p) t h = subst (λ n. p < n) (length-map t f) h
 
-  transform-rename : (a b : Operation A) → transform (rename f a) (rename f b) ≡ rename f (transform a b)
-  transform-rename (Noop i) b = refl
-  transform-rename (Insert i p x) (Noop j) = refl
-  transform-rename (Insert i p x) (Insert j q y) = cond-rename (ltb q p || (eqb q p && ltb j i)) (Insert i (p + 1) x) (Insert i p x)
-  transform-rename (Insert i p x) (Delete j q) = cond-rename (ltb q p) (Insert i (p - 1) x) (Insert i p x)
-  transform-rename (Delete i p) (Noop j) = refl
-  transform-rename (Delete i p) (Insert j q y) = cond-rename (leb q p) (Delete i (p + 1)) (Delete i p)
-  transform-rename (Delete i p) (Delete j q) = ap (cond (ltb q p) (Delete i (p - 1))) (cond-rename (eqb q p) (Noop i) (Delete i p))
+  -- what an operation becomes does not depend on the other's letters
+  pub transform-rename : (g : A → B) (a b : Operation A) → transform (rename f a) (rename g b) ≡ rename f (transform a b)
+  transform-rename g (Noop i) b = refl
+  transform-rename g (Insert i p x) (Noop j) = refl
+  transform-rename g (Insert i p x) (Insert j q y) = cond-rename (ltb q p || (eqb q p && ltb j i)) (Insert i (p + 1) x) (Insert i p x)
+  transform-rename g (Insert i p x) (Delete j q) = cond-rename (ltb q p) (Insert i (p - 1) x) (Insert i p x)
+  transform-rename g (Delete i p) (Noop j) = refl
+  transform-rename g (Delete i p) (Insert j q y) = cond-rename (leb q p) (Delete i (p + 1)) (Delete i p)
+  transform-rename g (Delete i p) (Delete j q) = ap (cond (ltb q p) (Delete i (p - 1))) (cond-rename (eqb q p) (Noop i) (Delete i p))
       ∙ cond-rename (ltb q p) (Delete i (p - 1)) (cond (eqb q p) (Noop i) (Delete i p))
 
   puts-rename : (a : Operation A) → puts (rename f a) ≡ map f (puts a)
@@ -86,8 +87,8 @@ module _ {A B : Type 0} (f : A → B) where
     apply = apply-rename;
     fits = fits-rename;
     fits_back = fits_renamed;
-    late = transform-rename;
-    early = transform-rename;
+    late = transform-rename f;
+    early = transform-rename f;
     late_through = through-rename;
     early_through = through-rename;
     puts = puts-rename;
@@ -95,4 +96,4 @@ module _ {A B : Type 0} (f : A → B) where
   }
     where
       through-rename : (a : Operation A) (bs : List (Operation A)) → through transform transform (rename f a) (map (rename f) bs) ≡ map_passed (rename f) (through transform transform a bs)
-      through-rename = map-through (rename f) transform transform transform transform transform-rename transform-rename
+      through-rename = map-through (rename f) transform transform transform transform (transform-rename f) (transform-rename f)

@@ -1,5 +1,5 @@
 -- What the table can make of an operation: the same kind, site and letter, at a place that is at most one higher; or of a deletion nothing.
-use Rattle.std.proofs.Common.{◌≡◌, ℕ, ◌+◌, ◌-◌, ◌^◌, ◌<◌, ◌≤◌, cond, ◌&&◌, ◌||◌, eqb, ltb, leb, List, [], refl, arith}
+use Rattle.std.proofs.Common.{◌≡◌, ℕ, ◌+◌, ◌-◌, ◌^◌, ◌<◌, ◌≤◌, cond, eqb, ltb, leb, List, [], refl, arith}
 use Rattle.std.proofs.lemmas.Bool.{cond_both}
 use Rattle.operation.specs.declared.operation.Operation.{Operation}
 use Rattle.operation.specs.declared.operation.Operation.TheVariants.{Noop, Insert, Delete}
@@ -23,7 +23,7 @@ module _ {A : Type 0} where
   shape (Noop i) b = nothing
   shape (Insert i p x) (Noop j) = inserts (omega arith)
   shape (Insert i p x) (Insert j q y) =
-      cond_both (ltb q p || (eqb q p && ltb j i)) (Insert i (p + 1) x) (Insert i p x) (Shape (Insert i p x)) (λ _. inserts (omega arith)) (λ _. inserts (omega arith))
+      cond_both _ (Insert i (p + 1) x) (Insert i p x) (Shape (Insert i p x)) (λ _. inserts (omega arith)) (λ _. inserts (omega arith))
   shape (Insert i p x) (Delete j q) =
       cond_both (ltb q p) (Insert i (p - 1) x) (Insert i p x) (Shape (Insert i p x)) (λ _. inserts (omega arith)) (λ _. inserts (omega arith))
   shape (Delete i p) (Noop j) = deletes (omega arith)

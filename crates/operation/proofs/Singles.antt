@@ -3,7 +3,7 @@ use Rattle.std.proofs.Common.{refl}
 use Rattle.operation.specs.Transform.{transform}
 use Rattle.operation.specs.Laws.{singles, Side, Laws}
 use Rattle.operation.proofs.Tp1.{tp1, fits-transform}
-use Rattle.operation.proofs.Standing.{put_stands, unstruck_stays, struck_goes, comes_from, struck_stood, stays_once, order_on, order_back}
+use Rattle.operation.proofs.Standing.{put_stands, struck_or_stays, struck_goes, comes_from, struck_stood, stays_once, order_on, order_back}
 use Rattle.operation.proofs.Struck.{strikes_less, strikes_rest}
 use Rattle.operation.proofs.Shapes.{site_stays, puts_stay}
 
@@ -23,7 +23,7 @@ laws A = record {
   late_side = side A;
   early_side = side A;
   put_stands = put_stands;
-  unstruck_stays = unstruck_stays;
+  struck_or_stays = struck_or_stays;
   struck_goes = struck_goes;
   comes_from = comes_from;
   struck_stood = struck_stood;

@@ -34,11 +34,11 @@ module _ {A : Type 0} where
   delete_only zero z (l ∷ t) m = Memᴰ.tail m
   delete_only (suc p) z (l ∷ t) m = ⊎_elim (λ e. Memᴰ.head e) (λ k. Memᴰ.tail (delete_only p z t k)) (Memᴰ.cases_cons m)
 
-  delete_keeps : (p : ℕ) (z : A) (t : List A) → z ∈ t → (z ∈ take 1 (drop p t) → ⊥) → z ∈ delete_at p t
+  delete_keeps : (p : ℕ) (z : A) (t : List A) → z ∈ t → z ∈ take 1 (drop p t) ⊎ z ∈ delete_at p t
   unfolding delete_at
-  delete_keeps p z [] m n = m
-  delete_keeps zero z (l ∷ t) m n = ⊎_elim (λ e. absurd (n (Memᴰ.head e))) (λ k. k) (Memᴰ.cases_cons m)
-  delete_keeps (suc p) z (l ∷ t) m n = ⊎_elim (λ e. Memᴰ.head e) (λ k. Memᴰ.tail (delete_keeps p z t k n)) (Memᴰ.cases_cons m)
+  delete_keeps p z [] m = inr m
+  delete_keeps zero z (l ∷ t) m = ⊎_elim (λ e. inl (Memᴰ.head e)) (λ k. inr k) (Memᴰ.cases_cons m)
+  delete_keeps (suc p) z (l ∷ t) m = ⊎_elim (λ e. inr (Memᴰ.head e)) (λ k. ⊎_elim (λ s. inl s) (λ r. inr (Memᴰ.tail r)) (delete_keeps p z t k)) (Memᴰ.cases_cons m)
 
   pub struck_in : (p : ℕ) (z : A) (t : List A) → z ∈ take 1 (drop p t) → z ∈ t
   struck_in zero z [] m = m
@@ -97,7 +97,7 @@ module _ {A : Type 0} where
   delete_order p x y [] n m b = b
   delete_order zero x y (l ∷ t) n m b = ⊎_elim (λ e. absurd (n (Memᴰ.head e.0))) (λ k. k) (before_in x y b)
   delete_order (suc p) x y (l ∷ t) n m b = ⊎_elim
-      (λ e. before_here x y l (delete_at p t) e.0 (delete_keeps p y t e.1 m)) (λ k. there (delete_order p x y t n m k)) (before_in x y b)
+      (λ e. before_here x y l (delete_at p t) e.0 (⊎_elim (λ s. absurd (m s)) (λ r. r) (delete_keeps p y t e.1))) (λ k. there (delete_order p x y t n m k)) (before_in x y b)
 
   delete_order_back : (p : ℕ) (x y : A) (t : List A) → Before x y (delete_at p t) → Before x y t
   unfolding delete_at
@@ -111,10 +111,10 @@ module _ {A : Type 0} where
   put_stands (Insert i p z) t x m = ⊎_elim (λ e. Memᴰ.cast e (inserted_stands p z t)) (λ k. absurd (Memᴰ.not-nil k)) (Memᴰ.cases_cons m)
   put_stands (Delete i p) t x m = absurd (Memᴰ.not-nil m)
 
-  pub unstruck_stays : (a : Operation A) (t : List A) (x : A) → x ∈ t → (x ∈ strikes a t → ⊥) → x ∈ apply a t
-  unstruck_stays (Noop i) t x m n = m
-  unstruck_stays (Insert i p z) t x m n = insert_keeps p z x t m
-  unstruck_stays (Delete i p) t x m n = delete_keeps p x t m n
+  pub struck_or_stays : (a : Operation A) (t : List A) (x : A) → x ∈ t → x ∈ strikes a t ⊎ x ∈ apply a t
+  struck_or_stays (Noop i) t x m = inr m
+  struck_or_stays (Insert i p z) t x m = inr (insert_keeps p z x t m)
+  struck_or_stays (Delete i p) t x m = delete_keeps p x t m
 
   pub struck_goes : (a : Operation A) (t : List A) (x : A) → Once t → x ∈ strikes a t → x ∈ apply a t → x ∈ puts a
   struck_goes (Noop i) t x o m n = absurd (Memᴰ.not-nil m)

@@ -1,5 +1,5 @@
 -- Transformation property 1 for single letters: either of two operations of different sites may be done first.
-use Rattle.std.proofs.Common.{◌≡◌, ℕ, zero, suc, ◌+◌, ◌-◌, ◌<◌, ◌≤◌, cond, ◌&&◌, ◌||◌, eqb, ltb, leb, List, [], ◌∷◌, length, sym, refl, ap, add-one, arith}
+use Rattle.std.proofs.Common.{◌≡◌, ℕ, zero, suc, ◌+◌, ◌-◌, ◌<◌, ◌≤◌, cond, eqb, ltb, leb, List, [], ◌∷◌, length, sym, refl, ap, add-one, arith}
 use Rattle.std.proofs.lemmas.Bool.Decides.{nat_tests}
 use Rattle.std.proofs.lemmas.Bool.{cond_both, ltb-true, ltb-false, eqb-false}
 use Rattle.operation.specs.declared.operation.Operation.{Operation}
@@ -94,7 +94,7 @@ module _ {A : Type 0} where
   fits-transform (Insert i p x) (Noop j) t fa fb = fa
   fits-transform (Insert i p x) (Insert j q y) t fa fb =
       let n = length-insert_at q y t in
-      cond_both (ltb q p || (eqb q p && ltb j i)) (Insert i (p + 1) x) (Insert i p x) (λ o. Fits o (insert_at q y t)) (λ _. omega arith) (λ _. omega arith)
+      cond_both _ (Insert i (p + 1) x) (Insert i p x) (λ o. Fits o (insert_at q y t)) (λ _. omega arith) (λ _. omega arith)
   fits-transform (Insert i p x) (Delete j q) t fa fb =
       let n = length-delete_at q t fb in
       cond_both (ltb q p) (Insert i (p - 1) x) (Insert i p x) (λ o. Fits o (delete_at q t)) (λ e. omega (arith, ltb-true q p e)) (λ e. omega (arith, ltb-false q p e))

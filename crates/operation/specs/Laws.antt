@@ -61,9 +61,9 @@ pub record Laws {A : Type 0} (k : Kind A) : Type 0 where
   pub tp1 : (a b : k.Op) (t : k.Text) → Meet k a b t → k.apply (k.late a b) (k.apply b t) ≡ k.apply (k.early b a) (k.apply a t)
   pub late_side : Side k k.late
   pub early_side : Side k k.early
-  -- membership: what is put in stands there, what is not struck stays, what is struck goes, and nothing else comes
+  -- membership: what is put in stands there, what stood there is struck or stays, what is struck goes, and nothing else comes
   pub put_stands : (a : k.Op) (t : k.Text) (x : A) → x ∈ k.puts a → x ∈ k.letters (k.apply a t)
-  pub unstruck_stays : (a : k.Op) (t : k.Text) (x : A) → x ∈ k.letters t → (x ∈ k.strikes a t → ⊥) → x ∈ k.letters (k.apply a t)
+  pub struck_or_stays : (a : k.Op) (t : k.Text) (x : A) → x ∈ k.letters t → x ∈ k.strikes a t ⊎ x ∈ k.letters (k.apply a t)
   pub struck_goes : (a : k.Op) (t : k.Text) (x : A) → Once (k.letters t) → x ∈ k.strikes a t → x ∈ k.letters (k.apply a t) → x ∈ k.puts a
   pub comes_from : (a : k.Op) (t : k.Text) (x : A) → x ∈ k.letters (k.apply a t) → x ∈ k.puts a ⊎ x ∈ k.letters t
   pub struck_stood : (a : k.Op) (t : k.Text) (x : A) → x ∈ k.strikes a t → x ∈ k.letters t

@@ -2,3 +2,15 @@ pub mod States
 pub mod Seeings
 pub mod Rooms
 pub mod Cases
+pub mod Naming
+pub mod Paths
+pub mod ShownJoins
+pub mod Lengths
+pub mod ShownEdits
+pub mod ShownSees
+pub mod ShownCrash
+pub mod ShownTakes
+pub mod ShownActs
+pub mod ShownOpening
+pub mod Effects
+pub mod Settling

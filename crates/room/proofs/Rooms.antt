@@ -1,12 +1,15 @@
 -- The peers of the room, one after another.
-use Rattle.std.proofs.Common.{◌≡◌, ℕ, zero, suc, ◌+◌, ◌<◌, ◌≤◌, Bool, ◌||◌, List, [], ◌∷◌, ◌++◌, map, length, take, get_or, set, vec_items, sym, refl, ap, ◌∙◌, arith}
+use Rattle.std.proofs.Common.{◌≡◌, ℕ, zero, suc, ◌+◌, ◌<◌, ◌≤◌, Bool, ◌||◌, ltb, List, [], ◌∷◌, ◌++◌, map, length, take, get_or, set, vec_items, sym, refl, ap, ◌∙◌, arith}
 use Rattle.std.specs.List.{list_any}
 use Rattle.std.proofs.lemmas.List.{get_or-map, length-map, map-set, take_all}
 use Rattle.std.proofs.lemmas.List.Folds.{list_any_more}
+use Rattle.std.proofs.lemmas.Bool.{cond-true, lt-ltb}
+use Rattle.room.specs.declared.action.Action.{Action}
+use Rattle.room.specs.declared.command.Command.TheVariants as command
 use Rattle.room.specs.declared.host.Host.{Host}
 use Rattle.room.specs.declared.peer.Peer.{Peer}
 use Rattle.room.specs.declared.room.Room.{Room}
-use Rattle.room.specs.Scenes.{PeerState, Scene, RoomState, hosted, peer_of, stage, room_state, waiting, opening, scene, with, with_each, ended, any_ended}
+use Rattle.room.specs.Scenes.{PeerState, Scene, RoomState, hosted, peer_of, stage, room_state, waiting, opening, scene, with, with_each, ended, any_ended, acting, playing}
 
 -- one peer more, as a room begins
 pub one_more_waits : (i : ℕ) → i < 4 → take (i + 1) opening.peers ≡ take i opening.peers ++ waiting i ∷ []
@@ -60,3 +63,9 @@ any_peer m =
     let h : 4 ≤ length r.peers = omega arith in
     let k : length r.peers ≤ 4 = omega arith in
     any_of_first 4 r h ∙ ap (list_any (has_ended r)) (take_all 4 r.peers k) ∙ list_any-map (has_ended r) peer_of (vec_items m.peers)
+
+-- what one of the four does is what the room plays
+pub peer_plays : (h : Host) (ws : List Peer) (w : ℕ) (a : Action) (d : Peer) → w < length ws → length ws ≡ 4 → (k : Host) (y : Peer) → stage k y ≡ acting a (stage h (get_or ws w d)) →
+    gathered k (set ws w y) ≡ playing (command.Ask w a) (gathered h ws)
+peer_plays h ws w a d below four k y e =
+    done_with h ws w d below (acting a) k y e ∙ sym (cond-true (ltb w 4) (with w (acting a) (gathered h ws)) (gathered h ws) (lt-ltb w 4 (omega arith)))

@@ -50,7 +50,7 @@ module _ (s : Scene) (e : Entry Op) (next : next_entry s ≡ Some e) where
       ∙ ap (λ c. cond c (seeing_up_to n then) then) test
 
   -- one entry less is left
-  nearer : takes_entry (Some e) s ≡ true → unseen s ≡ suc (unseen then)
+  pub nearer : takes_entry (Some e) s ≡ true → unseen s ≡ suc (unseen then)
   nearer test =
       let none = is_none_from (see_refusal 65792 s.peer.site e s.peer.replica) test in
       let history : length then.server.history ≡ length s.server.history = ap (λ r. length (seen r e s).server.history) none in

@@ -2,7 +2,4 @@ pub mod Refusals
 pub mod Events
 pub mod Scenes
 pub mod Cases
-pub mod Runs
-pub mod OneRecord
-pub mod Nodes
-pub mod OverPackets
+pub mod Reached

@@ -13,8 +13,9 @@ use Rattle.server.specs.declared.refusal.Refusal.{Refusal as ServerRefusal}
 use Rattle.server.specs.declared.joined.Joined.{Joined}
 use Rattle.server.specs.Sessions.{free, joined_at, ServerState}
 use Rattle.server.specs.Servers.{state_of, with_seat, take_answer, take_after, hear_answer, hear_after, site_count, entry_at, restarted}
-use Rattle.room.specs.declared.message.Message.{Message}
-use Rattle.room.specs.declared.message.Message.TheVariants as message
+use Rattle.network.specs.declared.message.Message.{Message}
+use Rattle.network.specs.declared.message.Message.TheVariants as message
+use Rattle.network.specs.Messages.{is_operation}
 use Rattle.room.specs.declared.action.Action.{Action}
 use Rattle.room.specs.declared.action.Action.TheVariants as action
 use Rattle.room.specs.declared.command.Command.{Command}
@@ -209,10 +210,6 @@ is_accepted (Some e) = false
 
 abbrev pub accepted : Message Op → Scene → Bool
 accepted m s = is_accepted (server_refusal s.peer.site m s.server)
-
-abbrev pub is_operation : Message Op → Bool
-is_operation (message.Operation m) = true
-is_operation (message.Revision r) = false
 
 -- one message after another, up to one that is refused or that `stop` tells of; f: what is done if it comes to the end
 unfoldable pub taking_until : (Message Op → Bool) → (Scene → Scene) → List (Message Op) → Scene → Scene

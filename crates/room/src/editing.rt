@@ -6,9 +6,9 @@ ghost use Rattle.room.specs.Scenes.{peer_of, stage, operation_of, with_replica, 
 use crate::edit::Edit;
 use crate::event::Event;
 use crate::host::Host;
-use crate::message::Message;
 use crate::peer::Peer;
 use client::refusal::Refusal;
+use network::message::Message;
 use operation::entry::Submission;
 use std::alloc::AllocError;
 

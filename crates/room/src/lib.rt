@@ -9,7 +9,6 @@ mod editing;
 pub mod event;
 pub mod host;
 mod joining;
-pub mod message;
 mod opening;
 pub mod peer;
 pub mod play;

@@ -2,8 +2,8 @@
 ghost use Rattle.std.specs.Prelude.{◌≡◌, ◌<◌};
 ghost use Rattle.client.specs.Clients.{client_of};
 
-use crate::message::Message;
 use client::client::Client;
+use network::message::Message;
 use std::collections::VecDeque;
 
 #[derive(Drop)]

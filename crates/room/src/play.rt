@@ -2,6 +2,7 @@
 ghost use Rattle.std.specs.Prelude.{◌≡◌, IfOk, OnOk};
 ghost use Rattle.text.specs.Texts.{numbers};
 ghost use Rattle.room.specs.Scenes.{room_state, acting, opening, told, with_each, round, scene, any_ended, settling, crashing, playing};
+ghost use Rattle.room.specs.Reached.{Reached, Keeps, Agrees};
 
 use crate::action::Action;
 use crate::command::Command;
@@ -12,9 +13,10 @@ use crate::room::{PEERS, Room};
 use std::alloc::{AllocError, Global};
 
 impl Room {
-    // Nobody has joined, and the text is empty.
+    // Nobody has joined, and the text is empty. This shows a net that is reached, of which one record is promised.
     pub fn new(heap: Global) -> Result<Room, AllocError>
-        ensures { IfOk result (λ m. room_state m ≡ opening) }
+        ensures state { IfOk result (λ m. room_state m ≡ opening) }
+        ensures reached { IfOk result (λ m. Reached (room_state m)) }
     {
         let host = Host::new(heap)?;
         let mut peers = Vec::new(heap);
@@ -33,7 +35,8 @@ impl Room {
 
     // It has been reported.
     pub fn clear_events(&mut self)
-        ensures { room_state self.new ≡ told (room_state self.old) }
+        ensures state { room_state self.new ≡ told (room_state self.old) }
+        ensures reached { Reached (room_state self.old) → Reached (room_state self.new) }
     {
         self.host.events.clear();
     }
@@ -89,9 +92,10 @@ impl Room {
         self.peers.iter().any(|peer| peer.has_ended(&self.host))
     }
 
-    // A second round, where a connection has ended in the first, finds nothing left to take.
+    // A second round, where a connection has ended in the first, finds nothing left to take. Then all who have joined show the server's text, and nothing is pending.
     fn settle(&mut self) -> Result<(), AllocError>
-        ensures { OnOk result (room_state self.new ≡ settling (room_state self.old)) }
+        ensures state { OnOk result (room_state self.new ≡ settling (room_state self.old)) }
+        ensures agree { OnOk result (Agrees (room_state self.old) (room_state self.new)) }
     {
         self.round()?;
         if self.any_ended() {
@@ -109,9 +113,12 @@ impl Room {
         let _ = self.host.server.restart();
     }
 
-    // Plays one command. Where memory is wanting nothing is promised of the room any more.
+    // Plays one command. A room that is reached goes on by steps of this command to one that is; and after settling all agree.
+    // Where memory is wanting nothing is promised of the room any more.
     pub fn play(&mut self, command: Command) -> Result<(), AllocError>
-        ensures { OnOk result (room_state self.new ≡ playing command (room_state self.old)) }
+        ensures state { OnOk result (room_state self.new ≡ playing command (room_state self.old)) }
+        ensures reached { OnOk result (Keeps command (room_state self.old) (room_state self.new)) }
+        ensures agree { OnOk result (command ≡ Command.Settle → Agrees (room_state self.old) (room_state self.new)) }
     {
         match command {
             Command::Ask { peer, action } => match self.peers.get_mut(usize::from(peer)) {

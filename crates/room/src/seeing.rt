@@ -4,9 +4,9 @@ ghost use Rattle.room.specs.Scenes.{stage, takes_entry, seeing_entry, seeing, se
 
 use crate::event::Event;
 use crate::host::Host;
-use crate::message::Message;
 use crate::peer::Peer;
 use client::client::Client;
+use network::message::Message;
 use operation::entry::Entry;
 use std::alloc::AllocError;
 use std::mem;

@@ -4,8 +4,8 @@ ghost use Rattle.room.specs.Scenes.{hosted, stage, refusal_of, refused_by, is_ac
 
 use crate::event::Event;
 use crate::host::Host;
-use crate::message::Message;
 use crate::peer::Peer;
+use network::message::Message;
 use server::refusal::Refusal;
 use std::alloc::AllocError;
 

@@ -1,5 +1,5 @@
 -- The server's calls: what they answer and what they leave. Limits of the code are here.
-use Rattle.std.specs.Prelude.{◌≡◌, ℕ, zero, suc, min, Bool, cond, ◌||◌, List, [], ◌∷◌, ◌++◌, length, Some, None, Ok, Err, vec_items, Option, Result, count_by, ◌==◌, nat_le, nat_lt, slice_index_or}
+use Rattle.std.specs.Prelude.{◌≡◌, ℕ, zero, suc, min, Bool, cond, ◌||◌, List, [], ◌∷◌, ◌++◌, length, Some, None, Ok, Err, vec_items, vec_capacity, Option, Result, count_by, ◌==◌, nat_le, nat_lt, slice_index_or}
 use Rattle.operation.specs.declared.operation.Operation.TheVariants.{Noop}
 use Rattle.operation.specs.declared.entry.Entry.{Entry}
 use Rattle.operation.specs.declared.entry.Submission.{Submission}
@@ -23,6 +23,10 @@ seats v i = seats_in (vec_items v.sessions) i
 
 abbrev pub history_of : Server → List Op
 history_of v = vec_items v.history
+
+-- how many entries the history has memory for
+abbrev pub memory_of : Server → ℕ
+memory_of v = vec_capacity v.history
 
 abbrev pub text_of : Server → TextState
 text_of v = v.text

@@ -1,10 +1,10 @@
 // An operation of a client is taken into the history and told to the others.
-ghost use Rattle.std.specs.Prelude.{◌≡◌, ◌<◌, ◌≤◌, true, length, Err, vec_capacity};
+ghost use Rattle.std.specs.Prelude.{◌≡◌, ◌<◌, ◌≤◌, true, length, Err};
 ghost use Rattle.operation.specs.Edits.{site as site_of};
 ghost use Rattle.text.specs.Texts.{refused};
 ghost use Rattle.text.specs.Coded.{coded};
 ghost use Rattle.server.specs.Sessions.{arrival, sender};
-ghost use Rattle.server.specs.Servers.{room_of, seats, history_of, state_of, history_full, answered, with_seat, added, Leaves, Taking, take_answer, take_after};
+ghost use Rattle.server.specs.Servers.{room_of, memory_of, seats, history_of, state_of, history_full, answered, with_seat, added, Leaves, Taking, take_answer, take_after};
 ghost use Rattle.server.specs.Servers.{lowest as lowest_of};
 
 use crate::refusal::Refusal;
@@ -42,7 +42,7 @@ impl Server {
         requires { (seats self.old (site_of submission.op)).connected ≡ true }
         ensures one { result ≡ (arrival coded submission (seats self.old (site_of submission.op))).one }
         ensures after { Leaves self.old self.new (with_seat (site_of submission.op) (sender coded submission (seats self.old (site_of submission.op))) (state_of self.old)) }
-        ensures reserved { vec_capacity self.new.history ≡ vec_capacity self.old.history }
+        ensures reserved { memory_of self.new ≡ memory_of self.old }
     {
         let site = usize::from(submission.op.site());
         self.sessions[site].receive(submission)
@@ -50,7 +50,7 @@ impl Server {
 
     // Puts an operation of the site at the end of the history, does it to the text and tells the other clients.
     fn add(&mut self, site: u8, op: Operation) -> Entry
-        requires reserved { length (history_of self.old) < vec_capacity self.old.history }
+        requires reserved { length (history_of self.old) < memory_of self.old }
         requires short { length (history_of self.old) < 4294967294 }
         ensures entry { result ≡ record { place = length (history_of self.old); op = op } }
         ensures after { Leaves self.old self.new (added (room_of self.old) site op (state_of self.old)) }
@@ -69,7 +69,7 @@ impl Server {
     // `take`, where the client is connected and there is memory.
     fn receive(&mut self, submission: Submission) -> Result<Entry, Refusal>
         requires connected { (seats self.old (site_of submission.op)).connected ≡ true }
-        requires reserved { length (history_of self.old) < vec_capacity self.old.history }
+        requires reserved { length (history_of self.old) < memory_of self.old }
         ensures answer { result ≡ take_answer (room_of self.old) submission (state_of self.old) }
         ensures after { Leaves self.old self.new (take_after (room_of self.old) submission (state_of self.old)) }
     {
@@ -88,7 +88,7 @@ impl Server {
     // Refused is what comes from a site without a client, and, with the connection, what does not fit.
     // Memory is wanting only where the history has used up what it has.
     pub fn take(&mut self, submission: Submission) -> Result<Entry, Refusal>
-        ensures memory { result ≡ Err Refusal.OutOfMemory → ((seats self.old (site_of submission.op)).connected ≡ true) × (vec_capacity self.old.history ≤ length (history_of self.old)) }
+        ensures memory { result ≡ Err Refusal.OutOfMemory → ((seats self.old (site_of submission.op)).connected ≡ true) × (memory_of self.old ≤ length (history_of self.old)) }
         ensures outcome { Taking submission self.old result self.new }
     {
         if !self.is_connected(submission.op.site()) {

@@ -12,9 +12,9 @@ pub enum Message<O = Operation> {
 }
 
 impl Message {
-    ghost use Rattle.room.specs.Scenes.{is_operation};
+    ghost use Rattle.network.specs.Messages.{is_operation};
 
-    pub(crate) fn is_operation(&self) -> bool
+    pub fn is_operation(&self) -> bool
         ensures { result ≡ is_operation self.now }
     {
         matches!(self, Message::Operation(_))

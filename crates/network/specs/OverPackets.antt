@@ -3,9 +3,8 @@
 use Rattle.std.specs.Prelude.{◌≡◌, ℕ, ◌+◌, ◌<◌, ◌≤◌, Bool, false, cond, List, [], ◌∷◌, ◌++◌, length, take, drop, Some, None, Option, ◌==◌, ◌≢◌}
 use Rattle.operation.specs.Letters.{◌∈◌, Once, Apart, Before}
 use Rattle.operation.specs.Laws.{Kind}
-use Rattle.room.specs.Runs.{at, Deed}
-use Rattle.room.specs.OneRecord.{count_of}
-use Rattle.room.specs.Nodes.{Datagram, Reply, ask, operations_in, ClientNode, Session, first_start, restarted, performs, client_receives, client_ticks, ServerNode, Seating, entries, opened, ends_line, server_receives, server_ticks}
+use Rattle.network.specs.Runs.{at, count_of, Deed}
+use Rattle.network.specs.Nodes.{Datagram, Reply, ask, operations_in, ClientNode, Session, first_start, restarted, performs, client_receives, client_ticks, ServerNode, Seating, entries, opened, ends_line, server_receives, server_ticks}
 
 -- Nodes, and for each line all that was ever sent on it, up to the server and down to the client.
 -- For the statements alone: of each entry the connection that it came over; of each connection its line, its site and what was performed in it; every letter that was ever typed.

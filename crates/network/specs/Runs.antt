@@ -1,19 +1,36 @@
 -- Any number of clients and one server, over queues that lose nothing; for any kind of operations.
 -- A client is one screen. Each time that it joins it begins a life, with a connection of its own: sites are used again, connections never.
 -- So who an operation belongs to goes by connection.
-use Rattle.std.specs.Prelude.{◌≡◌, ℕ, ◌+◌, ◌<◌, true, cond, List, [], ◌∷◌, ◌++◌, length, Some, None, Option, ◌==◌, ◌≢◌, slice_index}
+use Rattle.std.specs.Prelude.{◌≡◌, ℕ, suc, ◌+◌, ◌<◌, true, cond, List, [], ◌∷◌, ◌++◌, map, length, Some, None, Option, ◌==◌, ◌≢◌}
 use Rattle.operation.specs.declared.entry.Submission.{Submission}
 use Rattle.operation.specs.Letters.{Once, Apart}
 use Rattle.operation.specs.Laws.{Kind}
 use Rattle.client.specs.Replicas.{Replica, fresh, performed, submission, confirmed, received}
-use Rattle.room.specs.declared.message.Message.{Message}
-use Rattle.room.specs.declared.message.Message.TheVariants as message
-use Rattle.server.specs.Sessions.{free, joined_at, heard, ServerState, taken}
+use Rattle.network.specs.declared.message.Message.{Message}
+use Rattle.network.specs.declared.message.Message.TheVariants as message
+use Rattle.server.specs.Sessions.{Seat, free, joined_at, heard, ServerState, arrival, taken}
 
 -- an operation as it was performed, with the text that stood on the screen at that moment
 pub record Deed {A : Type 0} (k : Kind A) : Type 0 where
   pub op : k.Op
   pub before : k.Text
+
+-- an entry of the history, with the connection that it came over
+pub record Row (O : Type 0) : Type 0 where
+  pub by : ℕ
+  pub op : O
+
+-- the operations of the history, and whose they are
+abbrev pub ops : {O : Type 0} → List (Row O) → List O
+ops {O} rows = map (λ (r : Row O). r.op) rows
+
+abbrev pub owners : {O : Type 0} → List (Row O) → List ℕ
+owners {O} rows = map (λ (r : Row O). r.by) rows
+
+-- how many of the entries came over connection c
+unfoldable pub count_of : ℕ → List ℕ → ℕ
+count_of c [] = 0
+count_of c (o ∷ os) = cond (o == c) (suc (count_of c os)) (count_of c os)
 
 -- One life of a client. queue: what is under way to the server, the oldest first; deeds: all that was performed in this life;
 -- ended: once the connection has ended, how many entries the history had then: the client is sent no later ones
@@ -25,11 +42,11 @@ pub record Life {A : Type 0} (k : Kind A) : Type 0 where
   pub deeds : List (Deed k)
   pub ended : Option ℕ
 
--- The server, with its seats by connection; owners: for each entry of the history the connection that it came over;
+-- The server, with its seats by connection; rows: its history, with whose each entry is;
 -- lives: by connection; connections: how many have been given, 0 and up; typed: every letter that was ever typed
 pub record Net {A : Type 0} (k : Kind A) : Type 0 where
   pub server : ServerState k
-  pub owners : List ℕ
+  pub rows : List (Row k.Op)
   pub lives : ℕ → Life k
   pub connections : ℕ
   pub typed : List A
@@ -48,117 +65,109 @@ module _ {A : Type 0} (k : Kind A) where
 
   -- nobody has joined, and the text is empty
   abbrev pub start : Net k
-  start = record { server = record { text = k.empty; history = []; seats = λ c. free }; owners = []; lives = λ c. nobody; connections = 0; typed = [] }
+  start = record { server = record { text = k.empty; history = []; seats = λ c. free }; rows = []; lives = λ c. nobody; connections = 0; typed = [] }
 
   abbrev pub with_life : ℕ → Life k → Net k → Net k
-  with_life c l n = record { server = n.server; owners = n.owners; lives = at c l n.lives; connections = n.connections; typed = n.typed }
+  with_life c l n = record { server = n.server; rows = n.rows; lives = at c l n.lives; connections = n.connections; typed = n.typed }
 
   abbrev pub with_server : ServerState k → Net k → Net k
-  with_server s n = record { server = s; owners = n.owners; lives = n.lives; connections = n.connections; typed = n.typed }
+  with_server s n = record { server = s; rows = n.rows; lives = n.lives; connections = n.connections; typed = n.typed }
+
+  -- WHAT EACH STEP LEAVES OF A LIFE
+  -- o is performed and sent
+  abbrev pub performing : k.Op → Life k → Life k
+  performing o l = record {
+    client = l.client;
+    site = l.site;
+    replica = performed k o l.replica;
+    queue = l.queue ++ message.Operation (submission k o l.replica) ∷ [];
+    deeds = l.deeds ++ record { op = o; before = l.replica.text } ∷ [];
+    ended = l.ended;
+  }
+
+  abbrev pub with_queue : List (Message k.Op) → Life k → Life k
+  with_queue q l = record { client = l.client; site = l.site; replica = l.replica; queue = q; deeds = l.deeds; ended = l.ended }
+
+  abbrev pub with_replica : Replica k → Life k → Life k
+  with_replica r l = record { client = l.client; site = l.site; replica = r; queue = l.queue; deeds = l.deeds; ended = l.ended }
+
+  -- it sends its revision so far
+  abbrev pub reporting : Life k → Life k
+  reporting l = with_queue (l.queue ++ message.Revision l.replica.revision ∷ []) l
+
+  -- it sees the next entry: its own of this life, or another's
+  abbrev pub seen_by : ℕ → Row k.Op → Replica k → Replica k
+  seen_by c e r = cond (e.by == c) (confirmed k r) (received k e.op r)
+
+  abbrev pub seeing : ℕ → Row k.Op → Life k → Life k
+  seeing c e l = with_replica (seen_by c e l.replica) l
+
+  -- client p has just joined at site i
+  abbrev pub newborn : ℕ → ℕ → k.Text → ℕ → Life k
+  newborn p i t h = record { client = p; site = i; replica = fresh k t h; queue = []; deeds = []; ended = None }
+
+  -- its connection ends at a history of h entries, unless it has ended before
+  abbrev pub ended_at : ℕ → Life k → Life k
+  ended_at h l = record { client = l.client; site = l.site; replica = l.replica; queue = l.queue; deeds = l.deeds; ended = first_end l.ended h }
 
   -- WHAT EACH STEP LEAVES
   -- the client with connection c performs o and sends it
   abbrev pub after_performing : ℕ → k.Op → Net k → Net k
   after_performing c o n = record {
     server = n.server;
-    owners = n.owners;
-    lives = at c (record {
-      client = (n.lives c).client;
-      site = (n.lives c).site;
-      replica = performed k o (n.lives c).replica;
-      queue = (n.lives c).queue ++ message.Operation (submission k o (n.lives c).replica) ∷ [];
-      deeds = (n.lives c).deeds ++ record { op = o; before = (n.lives c).replica.text } ∷ [];
-      ended = (n.lives c).ended;
-    }) n.lives;
+    rows = n.rows;
+    lives = at c (performing o (n.lives c)) n.lives;
     connections = n.connections;
     typed = n.typed ++ k.puts o;
   }
 
-  abbrev pub with_replica : ℕ → Replica k → Net k → Net k
-  with_replica c r n = with_life c (record {
-    client = (n.lives c).client;
-    site = (n.lives c).site;
-    replica = r;
-    queue = (n.lives c).queue;
-    deeds = (n.lives c).deeds;
-    ended = (n.lives c).ended;
-  }) n
-
-  abbrev pub with_queue : ℕ → List (Message k.Op) → Net k → Net k
-  with_queue c q n = with_life c (record {
-    client = (n.lives c).client;
-    site = (n.lives c).site;
-    replica = (n.lives c).replica;
-    queue = q;
-    deeds = (n.lives c).deeds;
-    ended = (n.lives c).ended;
-  }) n
-
-  -- it sends its revision so far
   abbrev pub after_reporting : ℕ → Net k → Net k
-  after_reporting c n = with_queue c ((n.lives c).queue ++ message.Revision (n.lives c).replica.revision ∷ []) n
+  after_reporting c n = with_life c (reporting (n.lives c)) n
 
   -- the server takes the operation m of connection c, the oldest under way; `rest` is under way then
+  abbrev pub entry_of : ℕ → Submission k.Op → Net k → Row k.Op
+  entry_of c m n = record { by = c; op = (arrival k m (n.server.seats c)).one }
+
   abbrev pub after_taking : ℕ → Submission k.Op → List (Message k.Op) → Net k → Net k
-  after_taking c m rest n = with_queue c rest (record {
+  after_taking c m rest n = record {
     server = taken k c m n.server;
-    owners = n.owners ++ c ∷ [];
-    lives = n.lives;
+    rows = n.rows ++ entry_of c m n ∷ [];
+    lives = at c (with_queue rest (n.lives c)) n.lives;
     connections = n.connections;
     typed = n.typed;
-  })
+  }
+
+  -- a seat is changed
+  abbrev pub with_seat : ℕ → Seat k.Op → ServerState k → ServerState k
+  with_seat c s v = record { text = v.text; history = v.history; seats = at c s v.seats }
 
   -- the server hears a revision
   abbrev pub after_hearing : ℕ → ℕ → List (Message k.Op) → Net k → Net k
-  after_hearing c r rest n = with_queue c rest (with_server (record {
-    text = n.server.text;
-    history = n.server.history;
-    seats = at c (heard r (n.server.seats c)) n.server.seats;
-  }) n)
+  after_hearing c r rest n = with_life c (with_queue rest (n.lives c)) (with_server (with_seat c (heard r (n.server.seats c)) n.server) n)
 
-  -- the client sees the next entry: its own of this life, or another's
-  abbrev pub after_seeing : ℕ → k.Op → Net k → Net k
-  after_seeing c o n =
-      with_replica c (cond (slice_index n.owners (n.lives c).replica.revision == c) (confirmed k (n.lives c).replica) (received k o (n.lives c).replica)) n
+  -- the client with connection c sees the entry e
+  abbrev pub after_seeing : ℕ → Row k.Op → Net k → Net k
+  after_seeing c e n = with_life c (seeing c e (n.lives c)) n
 
   -- client p joins at site i: a new connection, the server's text, nothing pending
   abbrev pub after_joining : ℕ → ℕ → Net k → Net k
   after_joining p i n = record {
-    server = record {
-      text = n.server.text;
-      history = n.server.history;
-      seats = at n.connections (joined_at (length n.server.history)) n.server.seats;
-    };
-    owners = n.owners;
-    lives = at n.connections (record {
-      client = p;
-      site = i;
-      replica = fresh k n.server.text (length n.server.history);
-      queue = [];
-      deeds = [];
-      ended = None;
-    }) n.lives;
+    server = with_seat n.connections (joined_at (length n.server.history)) n.server;
+    rows = n.rows;
+    lives = at n.connections (newborn p i n.server.text (length n.server.history)) n.lives;
     connections = n.connections + 1;
     typed = n.typed;
   }
 
-  -- a life whose connection ends at a history of h entries, unless it has ended before
-  abbrev pub ended_at : ℕ → Life k → Life k
-  ended_at h l = record { client = l.client; site = l.site; replica = l.replica; queue = l.queue; deeds = l.deeds; ended = first_end l.ended h }
-
   -- the server ends connection c
   abbrev pub after_ending : ℕ → Net k → Net k
-  after_ending c n = with_life c (ended_at (length n.server.history) (n.lives c)) (with_server (record {
-    text = n.server.text;
-    history = n.server.history;
-    seats = at c free n.server.seats;
-  }) n)
+  after_ending c n = with_life c (ended_at (length n.server.history) (n.lives c)) (with_server (with_seat c free n.server) n)
 
   -- the server crashes and starts again: its history is what it was, and so is its text; every connection has ended
   abbrev pub after_crashing : Net k → Net k
   after_crashing n = record {
     server = record { text = n.server.text; history = n.server.history; seats = λ c. free };
-    owners = n.owners;
+    rows = n.rows;
     lives = λ c. ended_at (length n.server.history) (n.lives c);
     connections = n.connections;
     typed = n.typed;
@@ -185,8 +194,8 @@ module _ {A : Type 0} (k : Kind A) where
     reports : (c : ℕ) → Current n c → Step n (after_reporting c n)
     takes : (c : ℕ) (m : Submission k.Op) (rest : List (Message k.Op)) → Connected n c → (n.lives c).queue ≡ message.Operation m ∷ rest → Step n (after_taking c m rest n)
     hears : (c r : ℕ) (rest : List (Message k.Op)) → Connected n c → (n.lives c).queue ≡ message.Revision r ∷ rest → Step n (after_hearing c r rest n)
-    sees : (c : ℕ) (o : k.Op) (before after : List k.Op) → Current n c → n.server.history ≡ before ++ o ∷ after → length before ≡ (n.lives c).replica.revision →
-        Sendable (n.lives c).ended (n.lives c).replica.revision → Step n (after_seeing c o n)
+    sees : (c : ℕ) (e : Row k.Op) (before after : List (Row k.Op)) → Current n c → n.rows ≡ before ++ e ∷ after → length before ≡ (n.lives c).replica.revision →
+        Sendable (n.lives c).ended (n.lives c).replica.revision → Step n (after_seeing c e n)
     -- a client joins, for the first time or anew, at a site that no connection has; a connection that it still had ends first
     joins : (p i : ℕ) → ((c : ℕ) → Connected n c → (n.lives c).site ≢ i) → ((c : ℕ) → Connected n c → (n.lives c).client ≢ p) → Step n (after_joining p i n)
     ends : (c : ℕ) → Connected n c → Step n (after_ending c n)
@@ -198,7 +207,7 @@ module _ {A : Type 0} (k : Kind A) where
   Quiet n _ (reports c u) = Unit {0}
   Quiet n _ (takes c m rest u e) = Unit {0}
   Quiet n _ (hears c r rest u e) = Unit {0}
-  Quiet n _ (sees c o f g u e l s) = Unit {0}
+  Quiet n _ (sees c e f g u l m s) = Unit {0}
   Quiet n _ (joins p i u v) = Unit {0}
   Quiet n _ (ends c u) = ⊥
   Quiet n _ crashes = ⊥
@@ -209,7 +218,7 @@ module _ {A : Type 0} (k : Kind A) where
   Calm n _ (reports c u) = ⊥
   Calm n _ (takes c m rest u e) = Unit {0}
   Calm n _ (hears c r rest u e) = Unit {0}
-  Calm n _ (sees c o f g u e l s) = Unit {0}
+  Calm n _ (sees c e f g u l m s) = Unit {0}
   Calm n _ (joins p i u v) = ⊥
   Calm n _ (ends c u) = ⊥
   Calm n _ crashes = ⊥

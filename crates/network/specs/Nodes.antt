@@ -6,7 +6,7 @@ use Rattle.operation.specs.declared.entry.Submission.{Submission}
 use Rattle.operation.specs.Laws.{Kind, apply_all}
 use Rattle.client.specs.Replicas.{Replica, fresh, performed, submission, seen}
 use Rattle.server.specs.Sessions.{free, joined_at, heard, ServerState, taken}
-use Rattle.room.specs.Runs.{at}
+use Rattle.network.specs.Runs.{at}
 
 -- WHAT CROSSES A LINE
 module _ {A : Type 0} (k : Kind A) where
