@@ -163,6 +163,11 @@ pub record OneLife (n m : NamedNet) (w c : ℕ) (s t : Scene) : Type 0 where
   pub its_seat : t.server.seats w ≡ seat_of (m.server.seats c)
   pub queue : (t.server.seats w).connected ≡ true → t.peer.queue ≡ map message_of (m.lives c).queue
 
+-- who is current stays so where no client is another and nobody joins
+pub current_kept : (n m : NamedNet) → m.connections ≡ n.connections → ((d : ℕ) → (m.lives d).client ≡ (n.lives d).client) →
+    (d : ℕ) → Current (written Named) n d → Current (written Named) m d
+current_kept n m e same d u = (omega (arith, u.0), (λ b h k q. u.1 b h (omega arith) (sym (same b) ∙ q ∙ same d)))
+
 module _ {n m : NamedNet} {c : ℕ → ℕ} {r : RoomState} {w : ℕ} {t : Scene} (s : Shows n c r) (below : w < 4) (joined : (scene w r).peer.joined ≡ true) (o : OneLife n m w (c w) (scene w r) t) where
   same_client : (d : ℕ) → (m.lives d).client ≡ (n.lives d).client
   same_client d = ⊎_elim (λ e. subst (λ d. (m.lives d).client ≡ (n.lives d).client) (sym e) o.client) (λ ne. ap (λ l. l.client) (o.lives d ne)) (cases_eq d (c w))
@@ -171,7 +176,7 @@ module _ {n m : NamedNet} {c : ℕ → ℕ} {r : RoomState} {w : ℕ} {t : Scene
   same_site d = ⊎_elim (λ e. subst (λ d. (m.lives d).site ≡ (n.lives d).site) (sym e) o.its_site) (λ ne. ap (λ l. l.site) (o.lives d ne)) (cases_eq d (c w))
 
   current_still : (d : ℕ) → Current (written Named) n d → Current (written Named) m d
-  current_still d u = let e = o.connections in (omega (arith, u.0), (λ b h k q. u.1 b h (omega arith) (sym (same_client b) ∙ q ∙ same_client d)))
+  current_still = current_kept n m o.connections same_client
 
   fewer : (d : ℕ) → d < m.connections → d < n.connections
   fewer d h = let e = o.connections in omega arith

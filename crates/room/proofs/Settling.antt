@@ -30,7 +30,7 @@ use Rattle.room.specs.Reached.{NamedNet, NamedOp, text_of, op_of, submission_of,
 use Rattle.room.proofs.Naming.{site_of}
 use Rattle.room.proofs.Seeings.{unseen, see_some, see_none, nearer}
 use Rattle.room.proofs.Paths.{carries_then, carries_cond, carries_nothing, Steps, Carries, onward_then, onward_weaker, onward_same, scene_with, scene_other, site_now, enough_peers}
-use Rattle.room.proofs.ShownJoins.{MayJoin, naming, good_net, same_length}
+use Rattle.room.proofs.ShownJoins.{MayJoin, naming_peer, good_net, same_length}
 use Rattle.room.proofs.Effects.{named_on, Quiet, UpToDate, Present, Beside, beside_same, Fact, Both, Own, both_own, quiet_own, seen_own, present_own, rejoined_beside, rejoined, taken_all_fewer, quiet_fewer, OfSite, taken_all_quiet, AllHeard, taken_all_heard, taken_none, sees_all, sees_next, on_seen, beside_seen, quiet_seen, present_seen}
 use Rattle.room.proofs.ShownActs.{acts_edit, acts_join, acts_rejoin, asked_keeps}
 use Rattle.room.proofs.ShownCrash.{crash_carried}
@@ -41,7 +41,7 @@ use Rattle.room.proofs.ShownTakes.{taking_carries, taking_all_carries}
 module _ (w : ℕ) (below : w < 4) where
   -- something that is done with a connected peer is done with one that was named, or only if it is connected
   when_named : (P : Steps) → MayJoin w P → (f : Scene → Scene) → Carries w On P f → Carries w (λ s. Unit {0}) P (λ s. f (named s))
-  when_named P allowed f x = carries_then w below (λ s. Unit {0}) On P named f (naming w below P allowed) (λ s q. named_on s) x
+  when_named P allowed f x = carries_then w below (λ s. Unit {0}) On P named f (naming_peer w below P allowed) (λ s q. named_on s) x
 
   if_connected : (P : Steps) (f : Scene → Scene) → Carries w On P f → Carries w (λ s. Unit {0}) P (λ s. cond (connected s) (f s) s)
   if_connected P f x = carries_cond w (λ s. Unit {0}) P connected f (λ s. s) (λ r a q. x r a q.1)

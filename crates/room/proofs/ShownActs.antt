@@ -10,7 +10,7 @@ use Rattle.room.specs.declared.edit.Edit.TheVariants as edit
 use Rattle.room.specs.Scenes.{Scene, RoomState, with, operation_of, connected, joining, named, performing, editing, acting, playing}
 use Rattle.room.specs.Reached.{Onward, Asked, Keeps}
 use Rattle.room.proofs.Paths.{Steps, Carries, carries_then, carries_same, carries_cond, carries_nothing, onward_same, site_now}
-use Rattle.room.proofs.ShownJoins.{MayJoin, naming, joining_anew}
+use Rattle.room.proofs.ShownJoins.{MayJoin, naming_peer, joining_anew}
 use Rattle.room.proofs.ShownEdits.{performing_joined}
 
 -- a peer that was named has joined, and keeps its site
@@ -26,7 +26,7 @@ module _ (w : ℕ) (below : w < 4) where
   acts_edit e r a u =
       let P = Asked w (action.Edit e) in
       carries_then w below (λ s. s.peer.site ≡ w) (λ s. (s.peer.joined ≡ true) × (s.peer.site ≡ w)) P named (editing e)
-      (λ r a q. naming w below P (λ n u v. refl) r a tt)
+      (λ r a q. naming_peer w below P (λ n u v. refl) r a tt)
       (λ s q. ((named_joined s).0, (named_joined s).1 ∙ q))
       (carries_same w (λ s. (s.peer.joined ≡ true) × (s.peer.site ≡ w)) P (performing (operation_of w e)) (editing e) (λ s q. ap (λ i. performing (operation_of i e) s) q.1)
       (λ r a q. performing_joined w below (operation_of w e) (site_asked w e) P (λ n c o u i f x y q h. (q, h)) r a q.0))
@@ -38,7 +38,7 @@ module _ (w : ℕ) (below : w < 4) where
   -- by any steps that may be joins
   pub rejoining : (P : Steps) → MayJoin w P → Carries w (λ s. Unit {0}) P (acting action.Rejoin)
   rejoining P allowed = carries_cond w (λ s. Unit {0}) P (λ s. s.peer.joined) named (λ s. s)
-      (λ r a q. naming w below P allowed r a tt)
+      (λ r a q. naming_peer w below P allowed r a tt)
       (carries_nothing w (λ s. Unit {0} × (s.peer.joined ≡ false)) P (λ s. s) (λ s q. refl) (λ s q. refl))
 
   pub acts_rejoin : Carries w (λ s. Unit {0}) (Asked w action.Rejoin) (acting action.Rejoin)

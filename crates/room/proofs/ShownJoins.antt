@@ -198,8 +198,8 @@ module _ (w : ℕ) (below : w < 4) (P : Steps) (allowed : MayJoin w P) where
       onward_by P a (onward here (joins w w here_too alone) (allowed a.net here_too alone)) (d a.shows w below) (shows_joined a.shows w below) (limited_joins a.net a.limited w)
 
   -- a peer that a command names joins if it has no connection
-  pub naming : Carries w (λ s. Unit {0}) P named
-  naming = carries_cond w (λ s. Unit {0}) P connected (λ s. s) joining
+  pub naming_peer : Carries w (λ s. Unit {0}) P named
+  naming_peer = carries_cond w (λ s. Unit {0}) P connected (λ s. s) joining
       (carries_nothing w (λ s. Unit {0} × (connected s ≡ true)) P (λ s. s) (λ s _. refl) (λ s _. refl))
       (λ r a q. joining_free r a q.1)
 

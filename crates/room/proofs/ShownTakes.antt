@@ -36,7 +36,7 @@ use Rattle.room.specs.declared.event.Event.TheVariants as event
 use Rattle.room.specs.Scenes.{Op, PeerState, Scene, RoomState, scene, with, waiting, connected, without, is_accepted, arriving, refusal_of, accepted, taking_until, taking, taking_all, reported}
 use Rattle.room.specs.Reached.{NamedNet, NamedOp, text_of, op_of, entry_of, submission_of, message_of, seat_of, replica_of, Plays, PlaysOrWaits, Shows, Limited, Reached, Onward}
 use Rattle.room.proofs.Naming.{IsLetter, site_of, apply_of, others_fit, heard_of, told_of, length-unseen, arrival_of, sender_of, only_one, none_letter, none_length}
-use Rattle.room.proofs.Paths.{path_append, path_weaker, at_place, at_other, Steps, Carries, carries_cond, carries_nothing, onward_by, site_now, plays_now, waits_now, plays_or_waits, limited_lives, Within, within, shows_with, shows_same, shows_seat, enough_peers, scene_with, with_then, onward_then}
+use Rattle.room.proofs.Paths.{path_append, path_weaker, at_place, at_other, Steps, Carries, carries_cond, carries_nothing, onward_by, site_now, plays_now, waits_now, plays_or_waits, current_kept, limited_lives, Within, within, shows_with, shows_same, shows_seat, enough_peers, scene_with, with_then, onward_then}
 use Rattle.room.proofs.ShownJoins.{good_net, connected_shown, same_length, limited_ends, shows_ended}
 use Rattle.room.proofs.ShownSees.{On, now, plays, queue_now, its_site}
 
@@ -127,7 +127,7 @@ module _ {r : RoomState} (a : Reached r) (w : ℕ) (small : w < 4) (on : connect
   same_client = everywhere (λ j l. l.client ≡ (n.lives j).client) c (with_queue (written Named) rest (n.lives c)) n.lives refl (λ j _. refl)
 
   current_then : (d : ℕ) → Current (written Named) n d → Current (written Named) after d
-  current_then d x = (x.0, λ b h k e. x.1 b h k (sym (same_client b) ∙ e ∙ same_client d))
+  current_then = current_kept n after refl same_client
 
   life_then : after.lives c ≡ with_queue (written Named) rest (n.lives c)
   life_then = at_place c c _ n.lives refl

@@ -100,15 +100,6 @@ pub record Reached (r : RoomState) : Type 0 where
   pub promised : OneRecord (written Named)
 
 -- WHICH STEPS A COMMAND MAKES
-abbrev pub edits : Action → Bool
-edits (action.Edit e) = true
-edits action.Take = false
-edits action.See = false
-edits action.Join = false
-edits action.Rejoin = false
-edits action.TakeAll = false
-edits action.SeeAll = false
-
 abbrev pub takes_any : Action → Bool
 takes_any (action.Edit e) = false
 takes_any action.Take = true
