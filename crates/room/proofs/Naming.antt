@@ -16,10 +16,10 @@ use Rattle.operation.proofs.Shapes.{Room}
 use Rattle.operation.proofs.Tp1.{length-insert_at, length-delete_at}
 use Rattle.operation.proofs.Renaming.{renames}
 use Rattle.operation.proofs.Bounds.{through_exact, Rooms, length-apply}
-use Rattle.text.specs.Texts.{signed, refusal, unless, applied}
+use Rattle.text.specs.Texts.{signed, refusal}
 use Rattle.text.specs.Coded.{coded}
-use Rattle.client.specs.Replicas.{Replica, performed, submission, passed, confirmed, received}
-use Rattle.server.specs.Sessions.{Seat, free, joined_at, unseen, heard, told, arrival, sender}
+use Rattle.client.specs.Replicas.{Replica, performed, passed, confirmed, received}
+use Rattle.server.specs.Sessions.{Seat, unseen, heard, told, arrival, sender}
 use Rattle.network.specs.Written.{Signed, signed as signed_name, written, Named}
 use Rattle.network.proofs.Invariants.{Fitting, Mine}
 use Rattle.room.specs.Scenes.{Op}
@@ -36,9 +36,6 @@ signed_of (Delete i p) = refl
 
 pub apply_of : (o : NamedOp) (t : List (Signed Named)) → coded.apply (op_of o) (text_of t) ≡ text_of ((written Named).apply o t)
 apply_of o t = ap (λ a. apply a (text_of t)) (signed_of o) ∙ (renames letter_of).apply (signed_name o) t
-
-pub fits_of : (o : NamedOp) (t : List (Signed Named)) → (written Named).Fits o t → coded.Fits (op_of o) (text_of t)
-fits_of o t h = subst (λ a. Fits a (text_of t)) (sym (signed_of o)) ((renames letter_of).fits (signed_name o) t h)
 
 pub fits_back : (o : NamedOp) (t : List (Signed Named)) → coded.Fits (op_of o) (text_of t) → (written Named).Fits o t
 fits_back o t h = (renames letter_of).fits_back (signed_name o) t (subst (λ a. Fits a (text_of t)) (signed_of o) h)
@@ -80,9 +77,6 @@ others_fit i (o ∷ os) t m = (m.1, others_fit i os ((written Named).apply o t) 
 module _ (o : NamedOp) (r : Replica (written Named)) where
   pub performed_of : replica_of (performed (written Named) o r) ≡ performed coded (op_of o) (replica_of r)
   performed_of = λ j. record { text = sym (apply_of o r.text) j; pending = map-append op_of r.pending (o ∷ []) j; revision = r.revision }
-
-  pub sent_of : submission_of (submission (written Named) o r) ≡ submission coded (op_of o) (replica_of r)
-  sent_of = refl
 
 pub confirmed_of : (r : Replica (written Named)) → replica_of (confirmed (written Named) r) ≡ confirmed coded (replica_of r)
 confirmed_of r = λ j. record { text = text_of r.text; pending = sym (drop-map op_of 1 r.pending) j; revision = r.revision + 1 }
@@ -129,12 +123,6 @@ heard_of r s = λ j. record { connected = s.connected; said = r; concurrent = sy
 pub told_of : (e : Entry NamedOp) (s : Seat NamedOp) → seat_of (told e s) ≡ told (entry_of e) (seat_of s)
 told_of e s = cond_of seat_of s.connected (record { connected = true; said = s.said; concurrent = s.concurrent ++ e ∷ [] }) s
     ∙ ap (λ es. cond s.connected (record { connected = true; said = s.said; concurrent = es }) (seat_of s)) (map-append entry_of s.concurrent (e ∷ []))
-
-pub joined_of : (n : ℕ) → seat_of (joined_at n) ≡ joined_at n
-joined_of n = refl
-
-pub free_of : seat_of free ≡ free
-free_of = refl
 
 -- t: the text that the operation fits, and under all that its client has not seen
 module _ (m : Submission NamedOp) (s : Seat NamedOp) (t : List (Signed Named)) (short : length t + length s.concurrent < highest)
@@ -188,10 +176,6 @@ pub none_length : (n : ℕ) (o : NamedOp) (t : List (Signed Named)) → length t
 none_length n (Noop i) t h e = h
 none_length n (Insert i p x) t h e = let r = none_room n (Insert i p x) t e _ (Memᴰ.head refl) in omega (arith, length-insert_at p (record { letter = x; site = i }) t)
 none_length n (Delete i p) t h e = let f = none_fits n (Delete i p) t e in omega (arith, length-delete_at p t f)
-
-pub applied_of : (n : ℕ) (o : NamedOp) (t : List (Signed Named)) → refusal n (op_of o) (text_of t) ≡ None →
-    applied n (op_of o) (text_of t) ≡ text_of ((written Named).apply o t)
-applied_of n o t e = ap (λ r. unless r (coded.apply (op_of o) (text_of t)) (text_of t)) e ∙ apply_of o t
 
 -- A NAME for a letter: how many were typed before it
 abbrev pub naming : ℕ → Op → NamedOp

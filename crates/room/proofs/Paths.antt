@@ -58,9 +58,6 @@ put w s r = record { server = s.server; peers = set r.peers w s.peer; events = s
 pub with_same : (w : ℕ) (f g : Scene → Scene) (r : RoomState) → f (scene w r) ≡ g (scene w r) → with w f r ≡ with w g r
 with_same w f g r e = ap (λ s. put w s r) e
 
-pub with_none : (w : ℕ) (r : RoomState) → with w (λ s. s) r ≡ r
-with_none w r = ap (λ ps. record { server = r.server; peers = ps; events = r.events }) (set-get_or r.peers w (waiting w))
-
 -- Where what is needed holds of peer w, what is done with it takes the room onward.
 abbrev pub Carries : ℕ → (Scene → Type 0) → Steps → (Scene → Scene) → Type 0
 Carries w Q P f = (r : RoomState) (a : Reached r) → Q (scene w r) → Onward P a.net (with w f r)
@@ -78,10 +75,6 @@ carries_then w h Q R P f g x q y r a u =
 -- what comes to the same there
 pub carries_same : (w : ℕ) (Q : Scene → Type 0) (P : Steps) (f g : Scene → Scene) → ((s : Scene) → Q s → g s ≡ f s) → Carries w Q P f → Carries w Q P g
 carries_same w Q P f g e x r a u = subst (Onward P a.net) (sym (with_same w g f r (e (scene w r) u))) (x r a u)
-
-pub carries_weaker : (w : ℕ) (Q R : Scene → Type 0) (P S : Steps) (f : Scene → Scene) → ((s : Scene) → R s → Q s) → ((n m : NamedNet) (s : Step (written Named) n m) → P n m s → S n m s) →
-    Carries w Q P f → Carries w R S f
-carries_weaker w Q R P S f q p x r a u = onward_weaker P S p (x r a (q (scene w r) u))
 
 -- by a test
 pub carries_cond : (w : ℕ) (Q : Scene → Type 0) (P : Steps) (b : Scene → Bool) (f g : Scene → Scene) →

@@ -7,8 +7,8 @@ use Rattle.network.specs.Written.{written, Named}
 use Rattle.network.proofs.Writing.{written_laws}
 use Rattle.network.proofs.Promise.{one_record}
 use Rattle.room.specs.Scenes.{RoomState, scene, waiting, opening, told}
-use Rattle.room.specs.Reached.{PlaysOrWaits, Waits, Limited, Reached, Onward}
-use Rattle.room.proofs.Paths.{Steps, onward_same, shows_same}
+use Rattle.room.specs.Reached.{PlaysOrWaits, Waits, Limited, Reached}
+use Rattle.room.proofs.Paths.{shows_same}
 
 waits : (w : ℕ) → Waits (start (written Named)) w (opening.server.seats w) (waiting w)
 waits w = record { unknown = λ d h. absurd (omega arith); no_seat = refl; text = refl }
@@ -47,12 +47,5 @@ reached_opening = record {
 }
 
 -- WHAT HAS BEEN REPORTED is reported no more, and nothing else has changed
-pub told_same : (P : Steps) {r : RoomState} (a : Reached r) → Onward P a.net (told r)
-told_same P a = onward_same P a refl refl
-
 pub reached_told : {r : RoomState} → Reached r → Reached (told r)
 reached_told a = record { net = a.net; connection = a.connection; shows = shows_same a.shows refl refl; limited = a.limited; reachable = a.reachable; promised = a.promised }
-
-pub told_net : {r : RoomState} (a : Reached r) → ((reached_told a).net ≡ a.net) × ((reached_told a).connection ≡ a.connection)
-unfolding reached_told
-told_net a = (refl, refl)

@@ -1,5 +1,5 @@
 -- The server takes or hears what is under way from a peer: steps of the net, and what the room shows then. A connection with too much before it ends, and so does one that is refused.
-use Rattle.std.proofs.Common.{◌≡◌, ℕ, zero, suc, ◌+◌, ◌<◌, ◌≤◌, Bool, true, false, cond, not, ◌&&◌, ⊎_elim, List, [], ◌∷◌, ◌++◌, map, length, take, Some, None, Ok, Err, Option, ltb, leb, ◌==◌, ◌≢◌, sym, refl, ap, ap₂, ◌∙◌, subst, subst₂, arith}
+use Rattle.std.proofs.Common.{◌≡◌, ℕ, zero, suc, ◌+◌, ◌<◌, ◌≤◌, Bool, true, false, cond, not, ◌&&◌, ⊎_elim, List, [], ◌∷◌, ◌++◌, map, length, take, Some, None, Err, Option, ltb, leb, ◌==◌, ◌≢◌, sym, refl, ap, ap₂, ◌∙◌, subst, subst₂, arith}
 use Rattle.std.proofs.lemmas.Bool.{cases_eq, cases_lt, cond_both, cond-true, cond-false, eq-eqb, ne_eqb, leb-true, leb-false, lt-ltb, le-ltb, eqb-true, and_from, and_parts, or_from, and_left, and_right, false≢true}
 use Rattle.std.proofs.lemmas.Bool.Decides.{nat_tests}
 use Rattle.std.proofs.lemmas.List.{length-map, length-append, map_push, take-append-le, take_all, set-get_or}
@@ -18,7 +18,7 @@ use Rattle.server.specs.declared.refusal.Refusal.{Refusal as ServerRefusal}
 use Rattle.server.specs.declared.refusal.Refusal.TheVariants.{NotConnected}
 use Rattle.server.specs.Sessions.{Seat, free, unseen, heard, told, ServerState, arrival, sender, taken}
 use Rattle.server.specs.Seats.{bounded}
-use Rattle.server.specs.Servers.{with_seat, lowest, bad_revision, history_full, take_refusal, overflowed, answered, after_taking, take_answer, take_after, hear_answer, hear_after}
+use Rattle.server.specs.Servers.{with_seat, lowest, bad_revision, history_full, take_refusal, overflowed, answered, after_taking, take_answer, take_after, hear_after}
 use Rattle.network.specs.declared.message.Message.{Message}
 use Rattle.network.specs.declared.message.Message.TheVariants as message
 use Rattle.network.specs.Messages.{is_operation}
@@ -363,9 +363,6 @@ module _ {r : RoomState} (a : Reached r) (w : ℕ) (small : w < 4) (on : connect
 
   seat_is_on : (r.server.seats w).connected ≡ true
   seat_is_on = ap (λ t. t.connected) (plays a w small on).its_seat ∙ (now a w small on).1
-
-  pub hear_never_refused : hear_answer w i r.server ≡ Ok tt
-  hear_never_refused = cond-true _ _ _ seat_is_on ∙ cond-false _ _ _ good_revision
 
   hears_at : hear_after w i r.server ≡ with_seat w (heard i (r.server.seats w)) r.server
   hears_at = cond-true _ _ _ seat_is_on ∙ ap (λ s. with_seat w s r.server) (cond-false _ _ _ good_revision)
