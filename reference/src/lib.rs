@@ -1,9 +1,11 @@
-//! A second implementation of the rules in docs/PROTOCOL.md, as plain as can be.
-//! It is there to be compared with, so being easy to check comes before being fast.
+//! A second implementation of the rules in docs/PROTOCOL.md, to be compared with.
+//! It comes to the same output by another way than the page has it: a change knows the length of the text
+//! before and after it, a client's own text is computed where it is shown, and in place of a concurrent list
+//! the server follows what is pending at the client. Being easy to check comes before being fast.
 
+pub mod change;
 pub mod client;
-pub mod generate;
-pub mod operation;
+pub mod pending;
 pub mod player;
 pub mod refusal;
 pub mod room;

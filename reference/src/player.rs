@@ -61,19 +61,17 @@ impl Player {
 
     /// How many letters the text has that this writer's next command is about.
     pub fn length(&self, writer: u8) -> usize {
-        let screen = self.room.screen(writer);
-        let connected = screen.filter(|_| self.room.is_connected(writer));
-        connected.unwrap_or(self.room.desk()).length()
+        self.room.length(writer) as usize
     }
 
     /// Whether the server can take something of this writer's.
     pub fn has_sent(&self, writer: u8) -> bool {
-        self.room.is_connected(writer) && self.room.has_sent(writer)
+        self.room.has_sent(writer)
     }
 
     /// Whether this writer can see something.
     pub fn has_to_see(&self, writer: u8) -> bool {
-        self.room.is_connected(writer) && self.room.has_to_see(writer)
+        self.room.has_to_see(writer)
     }
 
     fn show(&self, out: &mut impl Write) -> io::Result<()> {
@@ -267,6 +265,37 @@ mod tests {
              line 6: no such writer\n"
         );
         assert!(failed);
+    }
+
+    #[test]
+    fn knows_what_can_be_taken_and_seen() {
+        // What is played, and of writer 0 and of writer 1 the length, and whether it has sent
+        // something and has something to see.
+        let table = [
+            ("type 0 0 a", (1, true, false), (0, false, false)),
+            ("new 1", (1, true, false), (0, false, false)),
+            ("take 0", (1, false, true), (0, false, true)),
+            ("type 1 0 b", (1, false, true), (1, true, true)),
+            ("see 1", (1, false, true), (2, true, false)),
+            ("strike 0 0", (0, true, true), (2, true, false)),
+            // Who has no connection begins with the server's text.
+            ("stop", (1, false, false), (1, false, false)),
+            ("see 1", (1, false, false), (1, false, false)),
+        ];
+        let mut player = Player::default();
+        for (line, first, second) in table {
+            player
+                .play_line(line.as_bytes(), &mut io::sink(), &mut io::sink())
+                .unwrap();
+            for (writer, expected) in [(0, first), (1, second)] {
+                let known = (
+                    player.length(writer),
+                    player.has_sent(writer),
+                    player.has_to_see(writer),
+                );
+                assert_eq!(known, expected, "{writer} after {line}");
+            }
+        }
     }
 
     #[test]

@@ -2,7 +2,7 @@
 
 /// Each reason has its number.
 /// The ninth, that memory runs out, is not here: the operating system then ends this program.
-#[derive(Clone, Copy, Debug, PartialEq, Eq, PartialOrd, Ord)]
+#[derive(Clone, Copy, Debug, PartialEq, Eq)]
 pub enum Refusal {
     Letter = 1,
     Connection = 2,

@@ -3,18 +3,18 @@
 use std::collections::VecDeque;
 use std::fmt;
 
+use crate::change::Action;
 use crate::client::{Client, Message};
-use crate::operation::Action;
 use crate::refusal::Refusal;
 use crate::script::{Command, WRITERS};
-use crate::server::Server;
+use crate::server::{Server, Welcome};
 use crate::text::Text;
 
 /// What is told of a command. It is printed on a line.
 #[derive(Clone, Copy, Debug, PartialEq, Eq)]
 pub enum Event {
     /// A writer has joined anew, and so much of what it had done is lost.
-    Lost { writer: u8, count: u32 },
+    Lost { writer: u8, count: usize },
     /// Something was refused.
     Refused(Refusal),
     /// There was nothing to take or to see.
@@ -31,6 +31,12 @@ impl fmt::Display for Event {
     }
 }
 
+impl From<Refusal> for Event {
+    fn from(refusal: Refusal) -> Event {
+        Event::Refused(refusal)
+    }
+}
+
 /// All that a script works on.
 #[derive(Debug, Default)]
 pub struct Room {
@@ -42,12 +48,29 @@ pub struct Room {
 #[derive(Debug)]
 struct Writer {
     client: Client,
-    /// What it has sent and the server has not taken, the oldest first.
+    /// What it has sent and the server has not taken, the oldest first. What was refused stays.
     queue: VecDeque<Message>,
     /// How many operations it has performed since it joined.
-    performed: u32,
+    performed: usize,
     /// How many entries of the history were its own when it joined.
-    entries_before: u32,
+    entries_before: usize,
+}
+
+impl Writer {
+    fn new(welcome: Welcome) -> Writer {
+        Writer {
+            entries_before: welcome.entries,
+            client: Client::new(welcome),
+            queue: VecDeque::new(),
+            performed: 0,
+        }
+    }
+
+    /// How many operations it has performed that the server has not taken.
+    fn untaken(&self) -> usize {
+        let is_operation = |message: &&Message| matches!(message, Message::Operation { .. });
+        self.queue.iter().filter(is_operation).count()
+    }
 }
 
 impl Room {
@@ -57,28 +80,42 @@ impl Room {
     }
 
     /// The text of a writer that has joined.
-    pub fn screen(&self, number: u8) -> Option<&Text> {
+    pub fn screen(&self, number: u8) -> Option<Text> {
         self.writer(number).map(|writer| writer.client.text())
     }
 
-    pub fn is_connected(&self, number: u8) -> bool {
-        self.server.is_connected(number)
+    /// How many letters the text has that the writer's next command is about.
+    pub fn length(&self, number: u8) -> i64 {
+        let connected = self.connected(number);
+        connected.map_or(self.desk().length(), |writer| writer.client.length())
     }
 
-    /// Whether something is on its way from the writer to the server.
+    /// Whether the server can take something of the writer's.
     pub fn has_sent(&self, number: u8) -> bool {
-        self.writer(number)
+        self.connected(number)
             .is_some_and(|writer| !writer.queue.is_empty())
     }
 
-    /// Whether there is an entry that the writer has not seen.
+    /// Whether the writer can see something.
     pub fn has_to_see(&self, number: u8) -> bool {
-        self.writer(number)
-            .is_some_and(|writer| self.server.entry(writer.client.revision()).is_some())
+        self.connected(number)
+            .is_some_and(|writer| writer.client.revision() < self.server.revision())
     }
 
     fn writer(&self, number: u8) -> Option<&Writer> {
         self.writers.get(usize::from(number))?.as_ref()
+    }
+
+    fn connected(&self, number: u8) -> Option<&Writer> {
+        self.writer(number)
+            .filter(|_| self.server.is_connected(number))
+    }
+
+    /// A writer that has been named.
+    fn named(&mut self, number: u8) -> &mut Writer {
+        self.writers[usize::from(number)]
+            .as_mut()
+            .expect("who is named joins")
     }
 
     /// Does what the command asks for, and tells what is to be told. Nothing is done to show.
@@ -87,15 +124,15 @@ impl Room {
         match command {
             Command::Edit(number, action) => {
                 events.extend(self.name(number));
-                events.extend(self.perform(number, action));
+                events.extend(self.perform(number, action).err());
             }
             Command::Take(number) => {
                 events.extend(self.name(number));
-                events.extend(self.take(number));
+                events.extend(self.take(number).err());
             }
             Command::See(number) => {
                 events.extend(self.name(number));
-                events.extend(self.see(number));
+                events.extend(self.see(number).err());
             }
             Command::New(number) => {
                 self.server.end(number);
@@ -117,100 +154,78 @@ impl Room {
             .server
             .join(number)
             .expect("there are more sites than writers");
+        assert_eq!(welcome.site, number);
         let entries = welcome.entries;
-        let joined = Writer {
-            client: Client::new(welcome),
-            queue: VecDeque::new(),
-            performed: 0,
-            entries_before: entries,
-        };
-        let before = self.writers[usize::from(number)].replace(joined)?;
-        let taken = entries - before.entries_before;
+        let before = self.writers[usize::from(number)].replace(Writer::new(welcome))?;
+        let count = before.untaken();
+        // All others have come into the history.
+        assert_eq!(before.performed - count, entries - before.entries_before);
         Some(Event::Lost {
             writer: number,
-            count: before.performed - taken,
+            count,
         })
     }
 
     /// The writer does something to its own text.
-    fn perform(&mut self, number: u8, action: Action) -> Option<Event> {
-        let writer = self.writers[usize::from(number)].as_mut()?;
-        match writer.client.perform(action) {
-            Ok(message) => {
-                writer.queue.push_back(message);
-                writer.performed += 1;
-                None
-            }
-            Err(refusal) => Some(Event::Refused(refusal)),
-        }
+    fn perform(&mut self, number: u8, action: Action) -> Result<(), Event> {
+        let writer = self.named(number);
+        let message = writer.client.perform(action)?;
+        writer.queue.push_back(message);
+        writer.performed += 1;
+        Ok(())
     }
 
     /// The server takes the writer's next operation, and hears the revisions before it.
-    fn take(&mut self, number: u8) -> Option<Event> {
+    fn take(&mut self, number: u8) -> Result<(), Event> {
         loop {
-            match self.receive(number) {
-                Ok(Some(Message::Revision(_))) => (),
-                Ok(Some(Message::Operation { .. })) => return None,
-                Ok(None) => return Some(Event::Nothing),
-                Err(refusal) => return Some(Event::Refused(refusal)),
+            match self.receive(number)? {
+                Some(Message::Revision(_)) => (),
+                Some(Message::Operation { .. }) => return Ok(()),
+                None => return Err(Event::Nothing),
             }
         }
     }
 
     /// The server takes all that the writer has sent.
-    fn take_all(&mut self, number: u8) -> Option<Event> {
-        loop {
-            match self.receive(number) {
-                Ok(Some(_)) => (),
-                Ok(None) => return None,
-                Err(refusal) => return Some(Event::Refused(refusal)),
-            }
-        }
+    fn take_all(&mut self, number: u8) -> Result<(), Event> {
+        while self.receive(number)?.is_some() {}
+        Ok(())
     }
 
     /// The next message from the writer, if there is one, goes to the server.
     fn receive(&mut self, number: u8) -> Result<Option<Message>, Refusal> {
-        let writer = self.writers[usize::from(number)].as_mut();
-        let message = writer.and_then(|writer| writer.queue.pop_front());
-        match message {
-            Some(Message::Operation {
-                operation,
-                revision,
-            }) => self.server.take(operation, revision)?,
-            Some(Message::Revision(revision)) => self.server.hear(number, revision)?,
+        match self.named(number).queue.front() {
+            Some(&Message::Operation { action, revision }) => {
+                self.server.take(number, action, revision)?;
+            }
+            Some(&Message::Revision(revision)) => self.server.hear(number, revision)?,
             None => (),
         }
-        Ok(message)
+        Ok(self.named(number).queue.pop_front())
     }
 
     /// The writer sees the next entry.
-    fn see(&mut self, number: u8) -> Option<Event> {
-        match self.see_next(number) {
-            Ok(true) => None,
-            Ok(false) => Some(Event::Nothing),
-            Err(refusal) => Some(Event::Refused(refusal)),
+    fn see(&mut self, number: u8) -> Result<(), Event> {
+        if self.see_next(number)? {
+            Ok(())
+        } else {
+            Err(Event::Nothing)
         }
     }
 
     /// The writer sees all entries.
-    fn see_all(&mut self, number: u8) -> Option<Event> {
-        loop {
-            match self.see_next(number) {
-                Ok(true) => (),
-                Ok(false) => return None,
-                Err(refusal) => return Some(Event::Refused(refusal)),
-            }
-        }
+    fn see_all(&mut self, number: u8) -> Result<(), Event> {
+        while self.see_next(number)? {}
+        Ok(())
     }
 
     /// The next entry, if there is one, goes to the writer.
     fn see_next(&mut self, number: u8) -> Result<bool, Refusal> {
-        let Some(writer) = &mut self.writers[usize::from(number)] else {
+        let revision = self.named(number).client.revision();
+        let Some(entry) = self.server.entry(revision) else {
             return Ok(false);
         };
-        let Some(entry) = self.server.entry(writer.client.revision()) else {
-            return Ok(false);
-        };
+        let writer = self.named(number);
         let message = writer.client.see(entry)?;
         writer.queue.extend(message);
         Ok(true)
@@ -218,26 +233,24 @@ impl Room {
 
     /// Rounds, until one ends no connection.
     fn settle(&mut self, events: &mut Vec<Event>) {
-        let all_joined: Vec<u8> = (0..)
-            .zip(&self.writers)
-            .filter_map(|(number, writer)| writer.as_ref().map(|_| number))
-            .collect();
+        let has_joined = |&number: &u8| self.writer(number).is_some();
+        let all: Vec<u8> = (0..).take(WRITERS).filter(has_joined).collect();
         loop {
-            for &number in &all_joined {
+            for &number in &all {
                 events.extend(self.name(number));
             }
-            for &number in &all_joined {
+            for &number in &all {
                 if self.server.is_connected(number) {
-                    events.extend(self.take_all(number));
+                    events.extend(self.take_all(number).err());
                 }
             }
-            for &number in &all_joined {
+            for &number in &all {
                 if self.server.is_connected(number) {
-                    events.extend(self.see_all(number));
+                    events.extend(self.see_all(number).err());
                 }
             }
             // Who has lost the connection in this round has not got it back yet.
-            if all_joined.iter().all(|&number| self.is_connected(number)) {
+            if all.iter().all(|&number| self.server.is_connected(number)) {
                 break;
             }
         }

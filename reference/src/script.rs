@@ -1,6 +1,6 @@
 //! The language of scripts.
 
-use crate::operation::Action;
+use crate::change::Action;
 
 /// How many writers there can be.
 pub const WRITERS: usize = 4;
@@ -27,58 +27,42 @@ pub fn read_line(line: &[u8]) -> Result<Option<Command>, Fault> {
         .split(|&byte| is_blank(byte))
         .filter(|word| !word.is_empty())
         .collect();
-    let Some((&first, rest)) = words.split_first() else {
-        return Ok(None);
-    };
-    if first.starts_with(b"#") {
-        return Ok(None);
-    }
-    let command = match first {
-        b"type" => read_type(rest)?,
-        b"strike" => read_strike(rest)?,
-        b"take" => Command::Take(only_writer(rest, "take wants a writer")?),
-        b"see" => Command::See(only_writer(rest, "see wants a writer")?),
-        b"new" => Command::New(only_writer(rest, "new wants a writer")?),
-        b"stop" => alone(rest, Command::Stop, "stop wants no word after it")?,
-        b"settle" => alone(rest, Command::Settle, "settle wants no word after it")?,
-        b"show" => alone(rest, Command::Show, "show wants no word after it")?,
-        _ => return Err("no such command"),
+    let command = match words[..] {
+        [] | [[b'#', ..], ..] => return Ok(None),
+        [b"type", writer, place, letter] => {
+            let writer = read_writer(writer)?;
+            let place = read_place(place)?;
+            let letter = read_letter(letter)?;
+            Command::Edit(writer, Action::Insert { place, letter })
+        }
+        [b"strike", writer, place] => {
+            let writer = read_writer(writer)?;
+            let place = read_place(place)?;
+            Command::Edit(writer, Action::Delete { place })
+        }
+        [b"take", writer] => Command::Take(read_writer(writer)?),
+        [b"see", writer] => Command::See(read_writer(writer)?),
+        [b"new", writer] => Command::New(read_writer(writer)?),
+        [b"stop"] => Command::Stop,
+        [b"settle"] => Command::Settle,
+        [b"show"] => Command::Show,
+        [first, ..] => return Err(wanted(first)),
     };
     Ok(Some(command))
 }
 
-fn read_type(words: &[&[u8]]) -> Result<Command, Fault> {
-    let &[writer, place, letter] = words else {
-        return Err("type wants a writer, a place and a letter");
-    };
-    let writer = read_writer(writer)?;
-    let place = read_place(place)?;
-    let letter = read_letter(letter)?;
-    Ok(Command::Edit(writer, Action::Insert { place, letter }))
-}
-
-fn read_strike(words: &[&[u8]]) -> Result<Command, Fault> {
-    let &[writer, place] = words else {
-        return Err("strike wants a writer and a place");
-    };
-    let writer = read_writer(writer)?;
-    let place = read_place(place)?;
-    Ok(Command::Edit(writer, Action::Delete { place }))
-}
-
-/// The writer, which must be the only word.
-fn only_writer(words: &[&[u8]], otherwise: Fault) -> Result<u8, Fault> {
-    match words {
-        [writer] => read_writer(writer),
-        _ => Err(otherwise),
-    }
-}
-
-/// The command, if no word is after it.
-fn alone(words: &[&[u8]], command: Command, otherwise: Fault) -> Result<Command, Fault> {
-    match words {
-        [] => Ok(command),
-        _ => Err(otherwise),
+/// What is wrong with a line that has this first word, and other words after it than it wants.
+fn wanted(first: &[u8]) -> Fault {
+    match first {
+        b"type" => "type wants a writer, a place and a letter",
+        b"strike" => "strike wants a writer and a place",
+        b"take" => "take wants a writer",
+        b"see" => "see wants a writer",
+        b"new" => "new wants a writer",
+        b"stop" => "stop wants no word after it",
+        b"settle" => "settle wants no word after it",
+        b"show" => "show wants no word after it",
+        _ => "no such command",
     }
 }
 

@@ -2,14 +2,7 @@
 
 use std::fmt;
 
-use crate::operation::{Action, Operation};
-use crate::refusal::Refusal;
-
-/// The highest number that a letter can have.
-pub const LAST_LETTER: u32 = 1_114_111;
-
-/// How many letters the server's text can have.
-pub const RECORD: usize = 65_536;
+use crate::change::{Change, Middle};
 
 /// A letter and the site of the client that typed it.
 #[derive(Clone, Copy, Debug, PartialEq, Eq)]
@@ -18,83 +11,43 @@ pub struct Letter {
     pub site: u8,
 }
 
-/// A list of letters, no longer than its capacity.
-#[derive(Clone, Debug, PartialEq, Eq)]
+/// A list of letters.
+#[derive(Clone, Debug, Default, PartialEq, Eq)]
 pub struct Text {
     letters: Vec<Letter>,
-    capacity: usize,
 }
 
 impl Text {
-    /// An empty text.
-    pub fn new(capacity: usize) -> Text {
-        Text {
-            letters: Vec::new(),
-            capacity,
-        }
-    }
-
     /// A text with these letters, all typed at one site.
-    pub fn of(letters: &str, site: u8, capacity: usize) -> Text {
+    #[cfg(test)]
+    pub fn of(letters: &str, site: u8) -> Text {
         let letter = |c| Letter {
             number: u32::from(c),
             site,
         };
-        let letters: Vec<Letter> = letters.chars().map(letter).collect();
-        assert!(letters.len() <= capacity);
-        Text { letters, capacity }
-    }
-
-    /// The same letters, with another capacity.
-    pub fn with_capacity(self, capacity: usize) -> Text {
-        assert!(self.letters.len() <= capacity);
-        Text { capacity, ..self }
+        let letters = letters.chars().map(letter).collect();
+        Text { letters }
     }
 
     /// How many letters there are.
-    pub fn length(&self) -> usize {
-        self.letters.len()
+    pub fn length(&self) -> i64 {
+        self.letters.len() as i64
     }
 
-    /// Whether the operation has a good letter, if it inserts one, and a good place.
-    pub fn fits(&self, operation: Operation) -> Result<(), Refusal> {
-        let (letter_is_good, place_is_good) = match operation.action {
-            Action::Insert { place, letter } => (
-                (1..=LAST_LETTER).contains(&letter),
-                place as usize <= self.letters.len(),
-            ),
-            Action::Delete { place } => (true, (place as usize) < self.letters.len()),
-            Action::Nothing => (true, true),
-        };
-        if !letter_is_good {
-            return Err(Refusal::Letter);
-        }
-        if !place_is_good {
-            return Err(Refusal::Place);
-        }
-        Ok(())
-    }
-
-    /// Does the operation, or says why not and changes nothing.
-    pub fn apply(&mut self, operation: Operation) -> Result<(), Refusal> {
-        self.fits(operation)?;
-        match operation.action {
-            Action::Insert { place, letter } => {
-                if self.letters.len() >= self.capacity {
-                    return Err(Refusal::Full);
-                }
-                let letter = Letter {
-                    number: letter,
-                    site: operation.site,
-                };
-                self.letters.insert(place as usize, letter);
+    /// Does the change, which must be one of this text and fit.
+    pub fn apply(&mut self, change: Change) {
+        assert_eq!(change.before(), self.length(), "{change:?}");
+        let place = change.ahead as usize;
+        match change.middle {
+            Middle::Put(number) => {
+                let site = change.site;
+                self.letters.insert(place, Letter { number, site });
             }
-            Action::Delete { place } => {
-                self.letters.remove(place as usize);
+            Middle::Drop => {
+                self.letters.remove(place);
             }
-            Action::Nothing => (),
+            Middle::Keep => (),
         }
-        Ok(())
     }
 }
 
@@ -111,62 +64,84 @@ impl fmt::Display for Text {
     }
 }
 
-/// The letter as a character, if it is printable.
+/// The letter as a character, if it is printable. Surrogates are no characters.
 fn printable(number: u32) -> Option<char> {
-    match number {
-        92 => None,
-        55_296..=57_343 => None,
-        32..=126 | 161..=LAST_LETTER => char::from_u32(number),
-        _ => None,
-    }
+    let is_printable = matches!(number, 32..=91 | 93..=126 | 161..);
+    char::from_u32(number).filter(|_| is_printable)
 }
 
 #[cfg(test)]
 mod tests {
     use super::*;
+    use crate::change::tests::{delete, insert};
+    use crate::change::LAST_LETTER;
 
     #[test]
-    fn applies_or_refuses_for_the_first_reason() {
-        let insert = |place, letter| Action::Insert { place, letter };
-        let delete = |place| Action::Delete { place };
-        let (x, last) = (u32::from('x'), u32::MAX);
-
-        // The text, its capacity, what is done, and the text after it or the reason.
+    fn applies_changes() {
+        // The text, what is done, and the text after it.
         let table = [
-            // done
-            ("", 1, insert(0, x), Ok("x")),
-            ("abc", 4, insert(0, x), Ok("xabc")),
-            ("abc", 4, insert(1, x), Ok("axbc")),
-            ("abc", 4, insert(3, x), Ok("abcx")),
-            ("abc", 4, insert(3, 1), Ok("abc\u{1}")),
-            ("abc", 4, insert(3, LAST_LETTER), Ok("abc\u{10ffff}")),
-            ("abc", 3, delete(0), Ok("bc")),
-            ("abc", 3, delete(2), Ok("ab")),
-            ("abc", 3, Action::Nothing, Ok("abc")),
-            ("", 0, Action::Nothing, Ok("")),
-            // refused for one reason
-            ("abc", 4, insert(3, 0), Err(Refusal::Letter)),
-            ("abc", 4, insert(3, LAST_LETTER + 1), Err(Refusal::Letter)),
-            ("abc", 4, insert(3, last), Err(Refusal::Letter)),
-            ("abc", 4, insert(4, x), Err(Refusal::Place)),
-            ("abc", 4, insert(last, x), Err(Refusal::Place)),
-            ("abc", 4, delete(3), Err(Refusal::Place)),
-            ("abc", 4, delete(last), Err(Refusal::Place)),
-            ("", 1, delete(0), Err(Refusal::Place)),
-            ("abc", 3, insert(3, x), Err(Refusal::Full)),
-            ("", 0, insert(0, x), Err(Refusal::Full)),
-            // refused for the first of several
-            ("abc", 4, insert(4, 0), Err(Refusal::Letter)),
-            ("abc", 3, insert(3, 0), Err(Refusal::Letter)),
-            ("abc", 3, insert(4, 0), Err(Refusal::Letter)),
-            ("abc", 3, insert(4, x), Err(Refusal::Place)),
+            ("", insert(0, 'x'), "x"),
+            ("abc", insert(0, 'x'), "xabc"),
+            ("abc", insert(1, 'x'), "axbc"),
+            ("abc", insert(3, 'x'), "abcx"),
+            ("abc", insert(3, '\u{1}'), "abc\u{1}"),
+            ("abc", insert(3, '\u{10ffff}'), "abc\u{10ffff}"),
+            ("abc", delete(0), "bc"),
+            ("abc", delete(1), "ac"),
+            ("abc", delete(2), "ab"),
         ];
-        for (before, capacity, action, expected) in table {
-            let mut text = Text::of(before, 5, capacity);
-            let result = text.apply(Operation { site: 5, action });
-            assert_eq!(result, expected.map(|_| ()), "{action:?} on {before}");
-            let after = Text::of(expected.unwrap_or(before), 5, capacity);
-            assert_eq!(text, after, "{action:?} on {before}");
+        for (before, action, after) in table {
+            let mut text = Text::of(before, 5);
+            text.apply(Change::new(5, action, text.length()));
+            assert_eq!(text, Text::of(after, 5), "{action:?} on {before}");
+            text.apply(Change::keep(5, text.length()));
+            assert_eq!(text, Text::of(after, 5), "nothing on {after}");
+        }
+    }
+
+    #[test]
+    fn letters_have_the_site_of_who_typed_them() {
+        let mut text = Text::of("ab", 3);
+        text.apply(Change::new(4, insert(1, 'x'), 2));
+        text.apply(Change::new(5, delete(0), 3));
+        let sites: Vec<u8> = text.letters.iter().map(|letter| letter.site).collect();
+        assert_eq!((text.to_string().as_str(), sites), ("xb", vec![4, 3]));
+    }
+
+    #[test]
+    #[should_panic]
+    fn no_change_of_another_text() {
+        Text::of("abc", 0).apply(Change::new(0, delete(0), 2));
+    }
+
+    #[test]
+    fn shows_what_is_not_printable_by_its_number() {
+        let shown = |number| {
+            let letters = vec![Letter { number, site: 0 }];
+            Text { letters }.to_string()
+        };
+        let by_number = [
+            1, 9, 10, 31, 92, 127, 128, 159, 160, 55_296, 56_319, 56_320, 57_343,
+        ];
+        for number in by_number {
+            assert_eq!(shown(number), format!("\\u{{{number:x}}}"));
+        }
+        let printed = [
+            32,
+            35,
+            91,
+            93,
+            126,
+            161,
+            173,
+            55_295,
+            57_344,
+            65_535,
+            65_536,
+            LAST_LETTER,
+        ];
+        for number in printed {
+            assert_eq!(shown(number), char::from_u32(number).unwrap().to_string());
         }
     }
 }

@@ -12,8 +12,8 @@ use Rattle.text.specs.Coded.{coded}
 use Rattle.client.specs.declared.refusal.Refusal.{Refusal}
 use Rattle.client.specs.declared.refusal.Refusal.TheVariants.{BadLetter, BeyondText, PendingFull, NotNext, TextFull}
 use Rattle.client.specs.declared.client.Client.{Client}
-use Rattle.client.specs.Pendings.{pendings}
-use Rattle.client.specs.Replicas.{Replica, fresh, performed, submission, passed, seen}
+use Rattle.client.specs.Pendings.{pending_in}
+use Rattle.client.specs.Replicas.{Replica, fresh, performed, submission, passed, received, seen}
 
 -- A CLIENT: its site, how many letters its text has room for, and the rest
 pub record ClientState : Type 0 where
@@ -22,10 +22,10 @@ pub record ClientState : Type 0 where
   pub replica : Replica coded
 
 abbrev pub replica : Client → Replica coded
-replica c = record { text = c.text.letters; pending = pendings c.pending; revision = c.revision }
+replica c = record { text = c.text.letters; pending = pending_in c.pending; revision = c.revision }
 
 abbrev pub client_of : Client → ClientState
-client_of c = record { site = c.pending.site; room = c.text.room; replica = replica c }
+client_of c = record { site = c.site; room = c.text.room; replica = replica c }
 
 abbrev pub text_of : ClientState → TextState
 text_of c = record { letters = c.replica.text; room = c.room }
@@ -33,6 +33,10 @@ text_of c = record { letters = c.replica.text; room = c.room }
 -- the site and the room stay
 abbrev pub with_replica : Replica coded → ClientState → ClientState
 with_replica r c = record { site = c.site; room = c.room; replica = r }
+
+-- another's operation is done to the text and pending is past it
+abbrev pub merged : Operation ℕ → Replica coded → Replica coded
+merged o c = record { text = (received coded o c).text; pending = (received coded o c).pending; revision = c.revision }
 
 -- REFUSALS
 -- a text's reason is the client's

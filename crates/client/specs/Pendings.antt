@@ -1,5 +1,6 @@
 -- The pending operations, which are kept in three arrays, as one list.
-use Rattle.std.specs.Prelude.{ℕ, List, [], ◌∷◌, take}
+use Rattle.std.specs.Prelude.{ℕ, List, [], ◌∷◌, take, Option, Some, None}
+use Rattle.std.specs.Global.{Box}
 use Rattle.operation.specs.declared.operation.Operation.{Operation}
 use Rattle.operation.specs.declared.operation.Operation.TheVariants.{Noop, Insert, Delete}
 use Rattle.client.specs.declared.kind.Kind.{Kind}
@@ -24,3 +25,8 @@ joined s (k ∷ ks) (p ∷ ps) (x ∷ xs) = operation s k p x ∷ joined s ks ps
 
 abbrev pub pendings : Pending → List (Operation ℕ)
 pendings w = take w.count (joined w.site w.kinds w.places w.letters)
+
+-- what is pending, and nothing where there is no list
+abbrev pub pending_in : Option (Box Pending) → List (Operation ℕ)
+pending_in None = []
+pending_in (Some b) = pendings b.value

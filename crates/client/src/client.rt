@@ -1,18 +1,25 @@
 // One client: its copy of the text, how much of the history it has seen, and its operations that have not come back.
-ghost use Rattle.std.specs.Prelude.{◌≡◌, ◌≤◌, length, IsOk};
+ghost use Rattle.std.specs.Prelude.{◌≡◌, ◌≤◌, length, [], IfOk, IsOk};
+ghost use Rattle.std.specs.Option.{ForSome, ForNone};
 
 use crate::pending::Pending;
+use std::alloc::{AllocError, Global};
 use text::document::Document;
 use text::refusal::Refusal as TextRefusal;
 
 // How many operations can be pending.
 pub const PENDING_CAPACITY: usize = 256;
 
+// The pending ones are in memory of their own, so that little is moved where the client is handed on; and the site stands beside the
+// revision, since a gap of seven bytes is slow to move. Only a client whose text is empty and has no room has no list of pending ones.
 #[derive(Drop)]
 pub struct Client {
     pub(crate) text: Document,
     pub(crate) revision: u32,
-    pub(crate) pending: Pending,
+    pub(crate) site: u8,
+    pub(crate) pending: Option<Box<Pending>>,
+    ghost own: { ForSome pending (λ b. b.value.site ≡ site) },
+    ghost bare: { ForNone pending (text ≡ record { letters = []; room = 0 }) },
 }
 
 impl Client {
@@ -21,13 +28,26 @@ impl Client {
     ghost use Rattle.client.specs.Clients.{client_of, text_of, newcomer, begun};
 
     // A client with this text that has seen the first `revision` entries of the history and has typed nothing.
-    pub fn new(site: u8, revision: u32, text: Document) -> Client
-        ensures { client_of result ≡ newcomer site revision text }
+    pub fn new(heap: Global, site: u8, revision: u32, text: Document) -> Result<Client, AllocError>
+        ensures { IfOk result (λ c. client_of c ≡ newcomer site revision text) }
     {
-        Client {
+        Ok(Client {
+            site,
             text,
             revision,
-            pending: Pending::new(site),
+            pending: Some(Box::new(heap, Pending::new(site))?),
+        })
+    }
+
+    // A client that needs no memory, and whose text has no room. It can stand where another is, while that sees an entry.
+    pub fn stand_in(heap: Global) -> Client
+        ensures { client_of result ≡ newcomer 0 0 (record { letters = []; room = 0 }) }
+    {
+        Client {
+            site: 0,
+            text: Document::new(heap),
+            revision: 0,
+            pending: None,
         }
     }
 
@@ -39,15 +59,18 @@ impl Client {
         ensures fits { text.now.room ≤ (client_of self.old).room → IsOk result }
     {
         self.text.copy_from(text)?;
+        self.site = site;
         self.revision = revision;
-        self.pending = Pending::new(site);
+        if let Some(pending) = &mut self.pending {
+            **pending = Pending::new(site);
+        }
         Ok(())
     }
 
     pub fn site(&self) -> u8
         ensures { result ≡ (client_of self.now).site }
     {
-        self.pending.site()
+        self.site
     }
 
     // How many entries of the history it has seen.
@@ -60,7 +83,7 @@ impl Client {
     pub fn pending_len(&self) -> usize
         ensures { result ≡ length (client_of self.now).replica.pending }
     {
-        self.pending.len()
+        self.pending.as_ref().map_or(0, |pending| pending.len())
     }
 
     pub fn text(&self) -> &Document

@@ -1,5 +1,5 @@
 // A client's own edits: done to its text at once, and pending until they come back.
-ghost use Rattle.std.specs.Prelude.{◌≡◌, true, Some};
+ghost use Rattle.std.specs.Prelude.{◌≡◌, ◌≢◌, true, Some};
 ghost use Rattle.operation.specs.Edits.{site as site_of};
 ghost use Rattle.text.specs.Texts.{refused};
 ghost use Rattle.client.specs.Clients.{client_of, lowest, after_edit, answer_to};
@@ -46,7 +46,8 @@ impl Client {
 
     // Does an operation of its own, or refuses it and changes nothing.
     fn perform(&mut self, op: Operation) -> Result<Submission, Refusal>
-        requires { site_of op ≡ (client_of self.old).site }
+        requires own { site_of op ≡ (client_of self.old).site }
+        requires edits { op ≢ Operation.Noop (client_of self.old).site }
         ensures answer { result ≡ answer_to op (client_of self.old) }
         ensures after { client_of self.new ≡ after_edit op (client_of self.old) }
     {
@@ -54,7 +55,9 @@ impl Client {
             return Err(when_full(self.text.check(op, RECORD_CAPACITY)));
         }
         self.text.apply(op, RECORD_CAPACITY)?;
-        self.pending.push(op.into());
+        if let Some(pending) = &mut self.pending {
+            pending.push(op.into());
+        }
         Ok(Submission {
             revision: self.revision,
             op,

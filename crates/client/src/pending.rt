@@ -92,12 +92,6 @@ impl Pending {
         }
     }
 
-    pub(crate) fn site(&self) -> u8
-        ensures { result ≡ self.now.site }
-    {
-        self.site
-    }
-
     pub(crate) fn len(&self) -> usize
         ensures { result ≡ length (pendings self.now) }
     {

@@ -26,7 +26,7 @@ fn outcome(seen: Result<Client, (Client, Refusal)>) -> (Client, u8) {
 #[test]
 fn types_and_sees(rt: HostRuntime) -> Result<(), Fail> {
     let text = Document::with_capacity(rt.alloc(), 9)?;
-    let mut client = Client::new(1, 0, text);
+    let mut client = Client::new(rt.alloc(), 1, 0, text)?;
     for (place, letter) in [(0, 98), (1, 99)] {
         let op = insert(1, place, letter);
         assert_eq!(rt;
@@ -70,7 +70,7 @@ fn types_and_sees(rt: HostRuntime) -> Result<(), Fail> {
 #[test]
 fn refuses_the_lowest_number_first(rt: HostRuntime) -> Result<(), Fail> {
     let text = Document::with_capacity(rt.alloc(), PENDING_CAPACITY)?;
-    let mut client = Client::new(1, 0, text);
+    let mut client = Client::new(rt.alloc(), 1, 0, text)?;
     assert_eq!(rt; client.delete(0), Err(Refusal::BeyondText));
     for _ in 0..PENDING_CAPACITY {
         assert!(rt; client.insert(0, 97).is_ok());
@@ -86,14 +86,14 @@ fn refuses_the_lowest_number_first(rt: HostRuntime) -> Result<(), Fail> {
     assert_eq!(rt; same.pending_len(), PENDING_CAPACITY);
     assert!(rt; same.report().is_none());
     let empty = Document::with_capacity(rt.alloc(), 0)?;
-    assert!(rt; Client::new(1, 1024, empty).report() == Some(1024));
+    assert!(rt; Client::new(rt.alloc(), 1, 1024, empty)?.report() == Some(1024));
     Ok(())
 }
 
 #[test]
 fn begins_anew_where_there_is_room(rt: HostRuntime) -> Result<(), Fail> {
     let mut text = Document::with_capacity(rt.alloc(), 2)?;
-    let mut client = Client::new(1, 0, Document::with_capacity(rt.alloc(), 1)?);
+    let mut client = Client::new(rt.alloc(), 1, 0, Document::with_capacity(rt.alloc(), 1)?)?;
     assert!(rt; client.insert(0, 98).is_ok() && text.apply(insert(0, 0, 97), 2).is_ok());
     assert!(rt; client.begin(2, 1, &text).is_ok() && client.text().letters() == [97].as_slice());
     assert!(rt; client.site() == 2 && client.revision() == 1 && client.pending_len() == 0);

@@ -32,7 +32,7 @@ impl Peer {
     {
         let text = Document::with_capacity(heap, RECORD_CAPACITY + PENDING_CAPACITY)?;
         Ok(Peer {
-            client: Client::new(site, 0, text),
+            client: Client::new(heap, site, 0, text)?,
             queue: VecDeque::new(heap),
             performed: None,
         })

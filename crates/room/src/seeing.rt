@@ -10,7 +10,6 @@ use network::message::Message;
 use operation::entry::Entry;
 use std::alloc::AllocError;
 use std::mem;
-use text::document::Document;
 
 impl Peer {
     // The peer sees this entry, and sends its revision where that is due; or the refusal is reported. The answer is whether it was seen.
@@ -18,10 +17,9 @@ impl Peer {
         ensures answer { IfOk result (λ b. b ≡ takes_entry (Some entry) (stage host.old self.old)) }
         ensures after { OnOk result (stage host.new self.new ≡ seeing_entry (Some entry) (stage host.old self.old)) }
     {
-        // Seeing takes the client, so one without a text stands in its place meanwhile.
-        let heap = *self.queue.allocator();
-        let absent = Client::new(self.client.site(), 0, Document::new(heap));
-        match mem::replace(&mut self.client, absent).see(entry) {
+        // Seeing takes the client, so another stands in its place meanwhile.
+        let stand_in = Client::stand_in(*self.queue.allocator());
+        match mem::replace(&mut self.client, stand_in).see(entry) {
             Ok(client) => {
                 self.client = client;
                 if let Some(revision) = self.client.report() {
