@@ -14,7 +14,7 @@ const LISTS: [(u64, usize); 3] = [(2_000, 60), (500, 800), (6, LONG)];
 
 const LONG: usize = 100_000;
 
-/// Plays random rows from the seed, and says how many there are, or where the two differ.
+/// Plays the random rows of a seed, and says how many there are, or where the two differ.
 pub fn check(seed: u64) -> Result<usize, String> {
     let mut rows = 0;
     for list in lists(seed) {

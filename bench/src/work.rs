@@ -35,13 +35,9 @@ pub fn takes(letters: usize, lag: usize, count: usize) -> Work {
     let growing = 2 * lag + 2 * CLIENTS;
     let end = letters - lag - 1;
     for step in 0..growing + count {
-        let row = Row {
-            kind: some_kind(server.text(), letters),
-            site: (step % CLIENTS) as u8,
-            revision: (letters + step - lag.min(step / 2)) as u32,
-            place: random.below(end) as u32,
-            letter: some_letter(&mut random),
-        };
+        let kind = some_kind(server.text(), letters);
+        let revision = letters + step - lag.min(step / 2);
+        let row = edit(&mut random, kind, step % CLIENTS, revision, end);
         server.serve(&row).expect(FITS);
         rows.push(row);
     }
@@ -58,24 +54,16 @@ pub fn sees(letters: usize, pending: usize, count: usize) -> Work {
         .map(|place| append(&mut random, place % others, place))
         .collect();
     let end = letters - pending - 1;
-    rows.extend((0..pending).map(|step| Row {
-        kind: [TYPE, STRIKE][step % 2],
-        site: SITE,
-        revision: 0,
-        place: random.below(end) as u32,
-        letter: some_letter(&mut random),
+    rows.extend((0..pending).map(|step| {
+        let kind = [TYPE, STRIKE][step % 2];
+        edit(&mut random, kind, usize::from(SITE), 0, end)
     }));
     for row in &rows {
         client.step(row).expect(FITS);
     }
     for step in 0..count {
-        let row = Row {
-            kind: some_kind(client.text(), letters),
-            site: (step % others) as u8,
-            revision: (letters + step) as u32,
-            place: random.below(end) as u32,
-            letter: some_letter(&mut random),
-        };
+        let kind = some_kind(client.text(), letters);
+        let row = edit(&mut random, kind, step % others, letters + step, end);
         client.step(&row).expect(FITS);
         rows.push(row);
     }
@@ -94,17 +82,20 @@ fn some_kind(text: &Text, letters: usize) -> u8 {
 
 /// A letter at the end of a text of so many.
 fn append(random: &mut Random, site: usize, length: usize) -> Row {
-    Row {
-        kind: INSERT,
-        site: site as u8,
-        revision: length as u32,
-        place: length as u32,
-        letter: some_letter(random),
-    }
+    let place = length as u32;
+    let row = edit(random, INSERT, site, length, 1);
+    Row { place, ..row }
 }
 
-fn some_letter(random: &mut Random) -> u32 {
-    random.between(1, 1_114_111) as u32
+/// Any letter, at any place below `end`.
+fn edit(random: &mut Random, kind: u8, site: usize, revision: usize, end: usize) -> Row {
+    Row {
+        kind,
+        site: site as u8,
+        revision: revision as u32,
+        place: random.below(end) as u32,
+        letter: random.between(1, 1_114_111) as u32,
+    }
 }
 
 #[cfg(test)]
