@@ -1,5 +1,8 @@
 //! Random rows, some of them to be refused, played by both: that they come to the same text.
 
+pub mod ends;
+pub mod line;
+
 use compare::random::Random;
 
 use crate::plain::client::Client;

@@ -1,12 +1,15 @@
-//! The proved server and client beside the same in plain Rust: that they come to the same texts, and how fast each is.
+//! The proved server, client and line beside the same in plain Rust: that they come to the same, and how fast each is.
 //! tools/bench builds and runs it.
 
 mod check;
+mod datagram_row;
+mod event;
 mod measure;
 mod plain;
 mod proved;
 mod row;
 mod screen;
+mod texts;
 mod work;
 
 use std::env;
@@ -19,6 +22,7 @@ use work::{sees, takes, Work, SITE};
 
 const USAGE: &str = "\
 usage: tools/bench
+       tools/bench --texts
        tools/bench --check SEED";
 
 fn main() -> ExitCode {
@@ -26,6 +30,7 @@ fn main() -> ExitCode {
     let words: Vec<&str> = words.iter().map(String::as_str).collect();
     let result = match words[..] {
         [] => print_table(),
+        ["--texts"] => print_texts(),
         ["--check", seed] => match seed.parse() {
             Ok(seed) => print_check(seed),
             Err(_) => return usage(),
@@ -48,7 +53,11 @@ fn usage() -> ExitCode {
 
 fn print_check(seed: u64) -> Result<(), String> {
     let rows = check::check(seed)?;
-    println!("bench: {rows} random rows, all alike");
+    let datagrams = check::line::check(seed)?;
+    let events = check::ends::check(seed)?;
+    println!(
+        "bench: {rows} random rows, {datagrams} datagrams and {events} events at the ends of a line, all alike"
+    );
     Ok(())
 }
 
@@ -67,6 +76,27 @@ fn print_table() -> Result<(), String> {
             let work = sees(letters, pending, count(letters, pending));
             print_row("see", letters, pending, &work, proved_client, plain_client)?;
         }
+    }
+    println!();
+    print_texts()
+}
+
+/// The same of the packet of a full text.
+fn print_texts() -> Result<(), String> {
+    println!("| a full text's packet, {} bytes | proved, µs | plain, µs | copied, µs | proved to copied | its middle half | plain to copied |", texts::length());
+    println!("|---|---|---|---|---|---|---|");
+    for measured in texts::measure().ok_or("the packets differ")? {
+        println!(
+            "| {} | {:.1} | {:.1} | {:.1} | {:.2} | {:.2} to {:.2} | {:.2} |",
+            measured.work,
+            measured.proved.median,
+            measured.plain.median,
+            measured.copy.median,
+            measured.proved_to_copy.median,
+            measured.proved_to_copy.low,
+            measured.proved_to_copy.high,
+            measured.plain_to_copy.median,
+        );
     }
     Ok(())
 }

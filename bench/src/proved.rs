@@ -1,5 +1,7 @@
 //! The proved server and client, over the functions that the static library exports.
 
+pub mod line;
+
 use crate::row::Row;
 use crate::screen::Screen;
 

@@ -4,9 +4,9 @@ ghost use Rattle.measured.specs.Rows.{operation_of};
 
 use operation::operation::Operation;
 
-const INSERT: u8 = 1;
+pub(crate) const INSERT: u8 = 1;
 
-const DELETE: u8 = 2;
+pub(crate) const DELETE: u8 = 2;
 
 #[repr(C)]
 #[derive(Clone, Copy)]

@@ -1,0 +1,6 @@
+use Rattle.std.proofs.Common.{arith}
+use Rattle.link.proofs.FiveBytes.{length-letters_at}
+use Rattle.link.proofs.letters.Letters.len.Goals as goal
+
+pub returns : goal.returns
+returns c = omega (arith, length-letters_at c.args.self.bytes.now c.args.self.fit)

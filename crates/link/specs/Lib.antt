@@ -1,0 +1,13 @@
+pub mod Refusals
+pub mod Letters
+pub mod Shown
+pub mod Messages
+pub mod Spelling
+pub mod Reading
+pub mod Numbering
+pub mod Deliveries
+pub mod Outboxes
+pub mod Connections
+pub mod ServerSide
+pub mod Hexadecimal
+pub mod Lasting
