@@ -1,6 +1,7 @@
 //! Random rows, some of them to be refused, played by both: that they come to the same text.
 
 pub mod ends;
+pub mod journal;
 pub mod line;
 
 use compare::random::Random;

@@ -4,9 +4,11 @@
 mod check;
 mod datagram_row;
 mod event;
+mod journals;
 mod measure;
 mod plain;
 mod proved;
+mod replay;
 mod row;
 mod screen;
 mod texts;
@@ -15,6 +17,7 @@ mod work;
 use std::env;
 use std::process::ExitCode;
 
+use check::journal::Compared;
 use measure::{measure, Measured, Play};
 use row::Row;
 use screen::Screen;
@@ -23,6 +26,7 @@ use work::{sees, takes, Work, SITE};
 const USAGE: &str = "\
 usage: tools/bench
        tools/bench --texts
+       tools/bench --journal
        tools/bench --check SEED";
 
 fn main() -> ExitCode {
@@ -31,6 +35,7 @@ fn main() -> ExitCode {
     let result = match words[..] {
         [] => print_table(),
         ["--texts"] => print_texts(),
+        ["--journal"] => print_journals(),
         ["--check", seed] => match seed.parse() {
             Ok(seed) => print_check(seed),
             Err(_) => return usage(),
@@ -58,6 +63,16 @@ fn print_check(seed: u64) -> Result<(), String> {
     println!(
         "bench: {rows} random rows, {datagrams} datagrams and {events} events at the ends of a line, all alike"
     );
+    let Compared {
+        calls,
+        cut,
+        damaged,
+        ends,
+        ..
+    } = check::journal::check(seed)?;
+    println!(
+        "bench: {calls} calls of journals, {cut} of them cut, {damaged} damaged and {ends} with other bytes behind them, all alike"
+    );
     Ok(())
 }
 
@@ -78,7 +93,9 @@ fn print_table() -> Result<(), String> {
         }
     }
     println!();
-    print_texts()
+    print_texts()?;
+    println!();
+    print_journals()
 }
 
 /// The same of the packet of a full text.
@@ -96,6 +113,25 @@ fn print_texts() -> Result<(), String> {
             measured.proved_to_copy.low,
             measured.proved_to_copy.high,
             measured.plain_to_copy.median,
+        );
+    }
+    Ok(())
+}
+
+/// The same of the server's journal.
+fn print_journals() -> Result<(), String> {
+    println!("| a journal in a file | entries | proved, µs an entry | plain, µs an entry | ratio | its middle half |");
+    println!("|---|---|---|---|---|---|");
+    for measured in journals::measure()? {
+        println!(
+            "| {} | {} | {:.3} | {:.3} | {:.2} | {:.2} to {:.2} |",
+            measured.work,
+            measured.entries,
+            measured.proved.median,
+            measured.plain.median,
+            measured.ratio.median,
+            measured.ratio.low,
+            measured.ratio.high,
         );
     }
     Ok(())

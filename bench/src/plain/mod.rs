@@ -1,6 +1,7 @@
 //! The server and the client in plain Rust, with the proved code's data structures and way of working, as one would write them for speed.
 
 pub mod client;
+pub mod journal;
 pub mod line;
 pub mod operation;
 pub mod server;

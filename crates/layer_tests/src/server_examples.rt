@@ -59,10 +59,29 @@ fn two_write_at_one_place(rt: HostRuntime) -> Result<(), Fail> {
     assert!(rt; server.text().sites() == [3, 3, 15, 15].as_slice());
     assert!(rt; server.revision() == 4 && server.entry(4).is_none());
     assert_eq!(rt; server.join(3), joined(14, 4, 0));
-    assert!(rt; server.restart().is_ok());
-    assert!(rt; server.text().letters() == [97, 99, 98, 100].as_slice());
-    assert!(rt; !server.is_connected(3) && !server.is_connected(15));
-    assert_eq!(rt; server.join(3), joined(3, 4, 2));
+    Ok(())
+}
+
+#[test]
+fn goes_on_from_a_history(rt: HostRuntime) -> Result<(), Fail> {
+    let mut text = Document::with_capacity(rt.alloc(), 9)?;
+    let mut history = Vec::new(rt.alloc());
+    for op in [insert(3, 0, 97), insert(15, 1, 98), insert(3, 0, 99)] {
+        assert!(rt; text.apply(op, 9).is_ok());
+        history.push(op)?;
+    }
+    let resumed = Server::resume(rt.alloc(), text, history);
+    assert!(rt; resumed.is_ok());
+    if let Ok(mut server) = resumed {
+        assert!(rt; server.text().letters() == [99, 97, 98].as_slice());
+        assert!(rt; server.revision() == 3);
+        assert!(rt; !server.is_connected(3) && !server.is_connected(15));
+        assert_eq!(rt; server.join(3), joined(3, 3, 2));
+        assert_eq!(rt;
+            server.take(at(3, insert(3, 3, 100))),
+            entry(3, insert(3, 3, 100))
+        );
+    }
     Ok(())
 }
 

@@ -97,7 +97,7 @@ edit-code_in_words : (r : ℕ) (e : Edit) → is_fit_edit e ≡ true → InWords
 edit-code_in_words r (edit.Insert p x) fit small = (small.0, (small.1, number-in_word x fit))
 edit-code_in_words r (edit.Delete p) fit small = (small.0, (small.1, omega arith))
 
-op-code_in_words : (o : Operation ℕ) → is_fit_operation o ≡ true → OperationInWords o → (nat_le (site o) 15 ≡ true) × CodeInWords (operation_code o)
+pub op-code_in_words : (o : Operation ℕ) → is_fit_operation o ≡ true → OperationInWords o → (nat_le (site o) 15 ≡ true) × CodeInWords (operation_code o)
 op-code_in_words (Noop i) fit small = (fit, (omega arith, omega arith))
 op-code_in_words (Insert i p x) fit small = let t = and_parts (nat_le i 15) (is_number x) fit in (t.0, (small, number-in_word x t.1))
 op-code_in_words (Delete i p) fit small = (fit, (small, omega arith))

@@ -4,6 +4,7 @@ pub mod Shown
 pub mod Messages
 pub mod Spelling
 pub mod Reading
+pub mod EntryBytes
 pub mod Numbering
 pub mod Deliveries
 pub mod Outboxes

@@ -6,6 +6,7 @@ mod blocks;
 mod checksum;
 pub mod client_end;
 pub mod datagram;
+pub mod entry_bytes;
 mod fields;
 pub mod hexadecimal;
 pub mod letters;

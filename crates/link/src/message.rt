@@ -91,7 +91,7 @@ pub enum FromServer<'a> {
 }
 
 // Whether an operation of the history can be said.
-pub(crate) fn operation_can_be_said(op: Operation) -> bool
+pub fn operation_can_be_said(op: Operation) -> bool
     ensures { result ≡ is_fit_operation op }
 {
     match op {

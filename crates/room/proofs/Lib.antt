@@ -1,4 +1,5 @@
 pub mod States
+pub mod Kept
 pub mod Seeings
 pub mod Rooms
 pub mod Cases

@@ -9,6 +9,7 @@ mod editing;
 pub mod event;
 pub mod host;
 mod joining;
+mod keeping;
 mod opening;
 pub mod peer;
 pub mod play;

@@ -3,9 +3,11 @@ ghost use Rattle.std.specs.Prelude.{◌≡◌, ◌<◌, IfOk};
 ghost use Rattle.room.specs.Scenes.{hosted, peer_of, opening, waiting};
 
 use crate::host::Host;
+use crate::keeping::start;
 use crate::peer::Peer;
 use client::client::{Client, PENDING_CAPACITY};
-use server::server::Server;
+use journal::journal::Journal;
+use journal::memory::Memory;
 use std::alloc::{AllocError, Global};
 use std::collections::VecDeque;
 use text::document::{Document, RECORD_CAPACITY};
@@ -16,9 +18,11 @@ impl Host {
         ensures server { IfOk result (λ h. hosted h ≡ opening.server) }
         ensures events { IfOk result (λ h. h.events.items ≡ opening.events) }
     {
-        let text = Document::with_capacity(heap, RECORD_CAPACITY)?;
+        let mut journal = Journal::new(Memory::new(heap));
+        let server = start(heap, &mut journal)?;
         Ok(Host {
-            server: Server::new(heap, text)?,
+            server,
+            journal,
             events: Vec::new(heap),
         })
     }

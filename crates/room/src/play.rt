@@ -105,12 +105,11 @@ impl Room {
         }
     }
 
-    // The server starts again from its history.
-    fn crash(&mut self)
-        ensures { room_state self.new ≡ crashing (room_state self.old) }
+    // The server starts again from what its journal has kept.
+    fn crash(&mut self) -> Result<(), AllocError>
+        ensures { OnOk result (room_state self.new ≡ crashing (room_state self.old)) }
     {
-        // An operation that does not fit ends the text there, and a history that the server wrote has none.
-        let _ = self.host.server.restart();
+        self.host.crash()
     }
 
     // Plays one command. A room that is reached goes on by steps of this command to one that is; and after settling all agree.
@@ -125,10 +124,7 @@ impl Room {
                 Some(peer) => peer.act(&mut self.host, action),
                 None => Ok(()),
             },
-            Command::Crash => {
-                self.crash();
-                Ok(())
-            }
+            Command::Crash => self.crash(),
             Command::Settle => self.settle(),
         }
     }

@@ -4,13 +4,14 @@ ghost use Rattle.room.specs.Scenes.{hosted, stage, refusal_of, refused_by, is_ac
 
 use crate::event::Event;
 use crate::host::Host;
+use crate::keeping::keep;
 use crate::peer::Peer;
 use network::message::Message;
 use server::refusal::Refusal;
 use std::alloc::AllocError;
 
 impl Host {
-    // The server takes or hears what has come from a site.
+    // The server takes or hears what has come from a site. What it takes is in the journal and stays through a crash before anything else happens.
     fn accept(&mut self, site: u8, message: Message) -> Result<(), Refusal>
         ensures answer { result ≢ Err Refusal.OutOfMemory → refusal_of result ≡ server_refusal site message (hosted self.old) }
         ensures host { result ≢ Err Refusal.OutOfMemory → hosted self.new ≡ server_after site message (hosted self.old) }
@@ -18,7 +19,8 @@ impl Host {
     {
         match message {
             Message::Operation(submission) => {
-                self.server.take(submission)?;
+                let entry = self.server.take(submission)?;
+                keep(&mut self.journal, entry)?;
                 Ok(())
             }
             Message::Revision(revision) => self.server.hear(site, revision),
@@ -45,7 +47,7 @@ impl Host {
 // Two loops, since they stop at different messages and end differently: one with a closure for each difference is longer.
 impl Peer {
     // The server takes the peer's oldest operation, with any revision before it.
-    #[tactic(auto, using(std::proofs::lemmas::List::nil_from_length), unfolding(crate::specs::Scenes::taking_until))]
+    #[tactic(auto, unfolding(crate::specs::Scenes::taking_until))]
     pub(crate) fn take(&mut self, host: &mut Host) -> Result<(), AllocError>
         ensures { OnOk result (stage host.new self.new ≡ taking (stage host.old self.old)) }
     {
@@ -59,7 +61,7 @@ impl Peer {
     }
 
     // The server takes all that is under way from the peer, as long as nothing is refused.
-    #[tactic(auto, using(std::proofs::lemmas::List::nil_from_length), unfolding(crate::specs::Scenes::taking_until))]
+    #[tactic(auto, unfolding(crate::specs::Scenes::taking_until))]
     pub(crate) fn take_all(&mut self, host: &mut Host) -> Result<(), AllocError>
         ensures { OnOk result (stage host.new self.new ≡ taking_all (stage host.old self.old)) }
     {

@@ -1,5 +1,5 @@
 // A line of a script, read as a command.
-ghost use Rattle.std.specs.Prelude.{◌≡◌};
+ghost use Rattle.std.specs.Prelude.{◌≡◌, ◌∷◌, []};
 ghost use Rattle.script.specs.Words.{words_of};
 ghost use Rattle.script.specs.Commands.{writer_of, place_of, letter_of, read_as, command_of};
 
@@ -31,6 +31,36 @@ fn parse_letter(word: &[u8]) -> Result<u32, Fault>
         .ok_or(Fault::BadLetter)
 }
 
+// A verb alone.
+fn parse_alone(verb: Verb) -> Result<Command, Fault>
+    ensures { result ≡ read_as verb [] }
+{
+    match verb {
+        Verb::Stop => Ok(Command::Stop),
+        Verb::Settle => Ok(Command::Settle),
+        Verb::Show => Ok(Command::Show),
+        _ => Err(Fault::Words(verb)),
+    }
+}
+
+// A verb with a writer behind it.
+fn parse_with_writer(verb: Verb, writer: &[u8]) -> Result<Command, Fault>
+    ensures { result ≡ read_as verb (writer.now ∷ []) }
+{
+    match verb {
+        Verb::Take => Ok(Command::Take {
+            writer: parse_writer(writer)?,
+        }),
+        Verb::See => Ok(Command::See {
+            writer: parse_writer(writer)?,
+        }),
+        Verb::New => Ok(Command::New {
+            writer: parse_writer(writer)?,
+        }),
+        _ => Err(Fault::Words(verb)),
+    }
+}
+
 // The words behind a verb, read as it wants: so many, and no more. No verb wants more than three.
 fn parse_rest(verb: Verb, mut words: Words<'_>) -> Result<Command, Fault>
     ensures { result ≡ read_as verb (words_of words.entry.line.now) }
@@ -45,18 +75,8 @@ fn parse_rest(verb: Verb, mut words: Words<'_>) -> Result<Command, Fault>
             writer: parse_writer(writer)?,
             place: parse_place(place)?,
         }),
-        (Verb::Take, Some(writer), None, _, _) => Ok(Command::Take {
-            writer: parse_writer(writer)?,
-        }),
-        (Verb::See, Some(writer), None, _, _) => Ok(Command::See {
-            writer: parse_writer(writer)?,
-        }),
-        (Verb::New, Some(writer), None, _, _) => Ok(Command::New {
-            writer: parse_writer(writer)?,
-        }),
-        (Verb::Stop, None, _, _, _) => Ok(Command::Stop),
-        (Verb::Settle, None, _, _, _) => Ok(Command::Settle),
-        (Verb::Show, None, _, _, _) => Ok(Command::Show),
+        (_, Some(writer), None, _, _) => parse_with_writer(verb, writer),
+        (_, None, _, _, _) => parse_alone(verb),
         _ => Err(Fault::Words(verb)),
     }
 }

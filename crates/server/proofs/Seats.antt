@@ -1,15 +1,16 @@
 -- The seats of a server whose sessions are changed one by one.
-use Rattle.std.proofs.Common.{◌≡◌, ℕ, All, zero, suc, ◌<◌, ◌≤◌, true, cond, eqb, List, [], ◌∷◌, map, length, get_or, set, sym, refl, ap, ◌∙◌, ⊎_elim, arith}
+use Rattle.std.proofs.Common.{◌≡◌, ℕ, All, zero, suc, ◌<◌, ◌≤◌, true, cond, eqb, List, [], ◌∷◌, map, length, get_or, set, vec_items, sym, refl, ap, ◌∙◌, ⊎_elim, arith}
 use Rattle.std.proofs.lemmas.List.{get_or-map, get_or_past, map-set, length-map}
 use Rattle.std.proofs.lemmas.Bool.{cases_lt, false≢true}
 use Rattle.std.proofs.lemmas.Grind.{common_steps}
 use Rattle.std.proofs.lemmas.Bool.Decides.{nat_tests}
 use Rattle.text.specs.Coded.{coded}
 use Rattle.text.specs.Texts.{Letter}
+use Rattle.server.specs.declared.server.Server.{Server}
 use Rattle.server.specs.declared.session.Session.{Session}
 use Rattle.server.specs.Sessions.{Seat, free, ServerState}
 use Rattle.server.specs.Seats.{Op, seat_of, seats_in}
-use Rattle.server.specs.Servers.{with_seat}
+use Rattle.server.specs.Servers.{seats, with_seat}
 
 pub seat_at : (ss : List Session) (i : ℕ) (s : Session) → i < length ss → s ≡ get_or ss i s → seats_in ss i ≡ seat_of s
 seat_at ss i s h e = get_or-map seat_of ss i s free h ∙ ap seat_of (sym e)
@@ -38,3 +39,7 @@ pub all_free : (ss : List Session) → All (λ s. seat_of s ≡ free) ss → (i 
 all_free [] all i = refl
 all_free (s ∷ ss) all zero = all 0 s (omega arith)
 all_free (s ∷ ss) all (suc i) = all_free ss (λ k d l. all (suc k) d (omega arith)) i
+
+-- whoever is connected has one of the sixteen sites
+pub connected_below : (v : Server) (i : ℕ) → (seats v i).connected ≡ true → i < 16
+connected_below v i e = let l = seat_connected (vec_items v.sessions) i e in omega arith

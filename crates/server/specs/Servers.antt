@@ -38,9 +38,13 @@ room_of v = (text_of v).room
 abbrev pub state_of : Server → ServerState coded
 state_of v = record { text = (text_of v).letters; history = history_of v; seats = seats v }
 
+-- nobody is connected to a server with this text and this history
+abbrev pub resumed : List Letter → List Op → ServerState coded
+resumed t os = record { text = t; history = os; seats = λ i. free }
+
 -- nothing has happened yet but to the text
 abbrev pub started : List Letter → ServerState coded
-started t = record { text = t; history = []; seats = λ i. free }
+started t = resumed t []
 
 -- THE LIMITS
 -- a revision that the client cannot have: above the history, or below what it said before

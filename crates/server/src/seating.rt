@@ -16,16 +16,6 @@ pub(crate) fn free_sessions(heap: Global) -> Result<Vec<Session>, AllocError>
     (0..SITES).map(|_| Session::new(heap)).try_collect(heap)
 }
 
-// Ends every connection.
-#[tactic(auto, using(crate::proofs::Seats::all_free))]
-pub(crate) fn close_all(sessions: &mut [Session])
-    ensures { (i : ℕ) → seats_in sessions.new i ≡ free }
-{
-    for session in sessions.iter_mut() {
-        session.close();
-    }
-}
-
 // Tells every client but that of site `from` of an entry.
 #[tactic(auto, using(crate::proofs::Told::told_all))]
 pub(crate) fn announce(sessions: &mut [Session], from: usize, entry: Entry)

@@ -1,48 +1,46 @@
-// A new server, and one after a crash.
-ghost use Rattle.std.specs.Prelude.{◌≡◌, min, [], IfOk};
-ghost use Rattle.text.specs.Texts.{refused};
-ghost use Rattle.text.specs.Documents.{with_letters};
-ghost use Rattle.server.specs.Servers.{text_of, room_of, history_of, state_of, started, Leaves, replayed, restarted};
+// A new server, and one that goes on from a history.
+ghost use Rattle.std.specs.Prelude.{◌≡◌, ◌<◌, ◌≤◌, IfOk, IfErr, Err, vec_len};
+ghost use Rattle.server.specs.Servers.{text_of, state_of, started, resumed};
 
-use crate::seating::{close_all, free_sessions};
+use crate::refusal::Refusal;
+use crate::seating::free_sessions;
 use crate::server::Server;
+use operation::entry::HISTORY_CAPACITY;
 use operation::operation::Operation;
 use std::alloc::{AllocError, Global};
-use text::document::{Document, RECORD_CAPACITY};
-use text::refusal::Refusal;
-
-// Does the operations to the text up to the first that is refused.
-fn replay(history: &[Operation], text: &mut Document) -> Result<(), Refusal>
-    ensures answer { refused result ≡ (replayed (min text.old.room 65536) history.now text.old.letters).failed }
-    ensures text { text.new ≡ with_letters (replayed (min text.old.room 65536) history.now text.old.letters).text text.old }
-{
-    for op in history {
-        text.apply(*op, RECORD_CAPACITY)?;
-    }
-    Ok(())
-}
+use text::document::Document;
 
 impl Server {
-    // The history is empty and nobody is connected. The text is as it is given.
+    // The text and the history are as they are given, and nobody is connected.
     #[tactic(auto, using(crate::proofs::Seats::all_free))]
-    pub fn new(heap: Global, text: Document) -> Result<Server, AllocError>
-        ensures { IfOk result (λ v. (text_of v ≡ text) × (state_of v ≡ started text.letters)) }
+    fn vacant(heap: Global, text: Document, history: Vec<Operation>) -> Result<Server, AllocError>
+        requires { vec_len history ≤ 4294967294 }
+        ensures { IfOk result (λ v. (text_of v ≡ text) × (state_of v ≡ resumed text.letters history.items)) }
     {
         let sessions = free_sessions(heap)?;
         Ok(Server {
             text,
-            history: Vec::new(heap),
+            history,
             sessions,
         })
     }
 
-    // Ends every connection and makes the text anew from the history, up to the first operation that is refused, if one is.
-    pub fn restart(&mut self) -> Result<(), Refusal>
-        ensures answer { refused result ≡ (replayed (min (room_of self.old) 65536) (history_of self.old) []).failed }
-        ensures after { Leaves self.old self.new (restarted (room_of self.old) (state_of self.old)) }
+    // The history is empty and nobody is connected. The text is as it is given.
+    pub fn new(heap: Global, text: Document) -> Result<Server, AllocError>
+        ensures { IfOk result (λ v. (text_of v ≡ text) × (state_of v ≡ started text.letters)) }
     {
-        close_all(self.sessions.as_mut_slice());
-        self.text.clear();
-        replay(self.history.as_slice(), &mut self.text)
+        Server::vacant(heap, text, Vec::new(heap))
+    }
+
+    // The text and the history are as they are given, and nobody is connected. A history that is too long is refused.
+    pub fn resume(heap: Global, text: Document, history: Vec<Operation>) -> Result<Server, Refusal>
+        ensures resumed { IfOk result (λ v. (text_of v ≡ text) × (state_of v ≡ resumed text.letters history.items)) }
+        ensures too_long { 4294967294 < vec_len history → result ≡ Err Refusal.Full }
+        ensures memory { vec_len history ≤ 4294967294 → IfErr result (λ e. e ≡ Refusal.OutOfMemory) }
+    {
+        if history.len() > HISTORY_CAPACITY as usize {
+            return Err(Refusal::Full);
+        }
+        Ok(Server::vacant(heap, text, history)?)
     }
 }

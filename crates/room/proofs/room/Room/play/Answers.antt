@@ -24,7 +24,7 @@ pub returns-in-None-clause-reached : goal.returns-in-None-clause-reached
 returns-in-None-clause-reached c = keeps_so c.args.command _ _ (search rules)
 
 pub returns-in-Crash-clause-reached : goal.returns-in-Crash-clause-reached
-returns-in-Crash-clause-reached c = keeps_so c.args.command _ _ (search rules)
+returns-in-Crash-clause-reached c = on_ok_weaker c.crash.result (keeps_so c.args.command _ _) (search rules)
 
 pub returns-in-Settle-clause-reached : goal.returns-in-Settle-clause-reached
 returns-in-Settle-clause-reached c = on_ok_weaker c.settle.result (keeps_so c.args.command _ _) (search rules)

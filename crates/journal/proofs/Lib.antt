@@ -1,0 +1,17 @@
+pub mod Parts
+pub mod RecordLaws
+pub mod Coming
+pub mod Replays
+pub mod Bytes
+pub mod Tails
+pub mod Finds
+pub mod Growing
+pub mod PartRead
+pub mod Opened
+pub mod FirstParts
+pub mod Sequences
+pub mod Boundaries
+pub mod Lives
+pub mod Durability
+pub mod Exactness
+pub mod Tellings

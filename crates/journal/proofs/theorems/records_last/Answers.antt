@@ -1,0 +1,5 @@
+use Rattle.journal.proofs.Durability.{durable}
+use Rattle.journal.proofs.theorems.records_last.Goals as goal
+
+pub returns : goal.returns
+returns c = durable

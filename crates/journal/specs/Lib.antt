@@ -1,0 +1,11 @@
+pub mod Refusals
+pub mod Records
+pub mod Contents
+pub mod Replaying
+pub mod Stores
+pub mod StoreLaws
+pub mod Disks
+pub mod Journals
+pub mod Openings
+pub mod Durability
+pub mod Exactness
