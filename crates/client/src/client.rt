@@ -22,6 +22,21 @@ pub struct Client {
     ghost bare: { ForNone pending (text ≡ record { letters = []; room = 0 }) },
 }
 
+impl Clone for Client {
+    ghost use Rattle.client.specs.Clients.{client_of};
+
+    ghost is_clone = { λ c d. client_of d ≡ client_of c };
+
+    fn clone(&self) -> Result<Client, AllocError> {
+        Ok(Client {
+            text: self.text.clone()?,
+            revision: self.revision,
+            site: self.site,
+            pending: self.pending.clone()?,
+        })
+    }
+}
+
 impl Client {
     ghost use Rattle.text.specs.Texts.{refused};
     ghost use Rattle.text.specs.Documents.{copy_refusal};

@@ -102,3 +102,29 @@ fn begins_anew_where_there_is_room(rt: HostRuntime) -> Result<(), Fail> {
     assert!(rt; client.site() == 2 && client.text().len() == 1);
     Ok(())
 }
+
+// Whether the client could type the letter.
+fn types(client: &mut Client, place: u32, letter: u32) -> bool {
+    client.insert(place, letter).is_ok()
+}
+
+// Whether the client has these letters, and as many operations pending.
+fn shows(client: &Client, letters: &[u32]) -> bool {
+    client.text().letters() == letters && client.pending_len() == letters.len()
+}
+
+// A clone has all that the client has, room too, and goes on by itself.
+#[test]
+fn clones(rt: HostRuntime) -> Result<(), Fail> {
+    let text = Document::with_capacity(rt.alloc(), 9)?;
+    let mut client = Client::new(rt.alloc(), 1, 3, text)?;
+    assert!(rt; types(&mut client, 0, 97));
+    let mut clone = client.clone()?;
+    assert!(rt; types(&mut clone, 1, 98));
+    assert!(rt; shows(&client, &[97]));
+    assert!(rt; shows(&clone, &[97, 98]));
+    assert!(rt; clone.site() == 1 && clone.revision() == 3 && clone.text().capacity() == 9);
+    let bare = Client::stand_in(rt.alloc()).clone()?;
+    assert!(rt; shows(&bare, &[]) && bare.text().capacity() == 0);
+    Ok(())
+}

@@ -70,7 +70,8 @@ fn run(rt: &HostRuntime) -> anyhow::Result<bool> {
     let mut out = BufWriter::new(heap, rt.stdout())?;
     let mut good = true;
     let lines = BufReader::new(heap, rt.stdin())?.split(heap, b'\n');
-    for (number, line) in (1u64..).zip(lines) {
+    // Counted from 0, so that the lines end before the numbers do: what the reader says of its end is not left out.
+    for (before, line) in (0u64..).zip(lines) {
         let line = line?;
         match parse(line.as_slice()) {
             Ok(None) => {}
@@ -84,6 +85,7 @@ fn run(rt: &HostRuntime) -> anyhow::Result<bool> {
             },
             Err(fault) => {
                 good = false;
+                let number = before.saturating_add(1);
                 eprintln!(rt; "line {number}: {fault}")?;
             }
         }

@@ -61,22 +61,27 @@ fn parse_with_writer(verb: Verb, writer: &[u8]) -> Result<Command, Fault>
     }
 }
 
-// The words behind a verb, read as it wants: so many, and no more. No verb wants more than three.
+// The words behind a verb, read as it wants: so many, and no more. No word is asked for where one before it settles what the line is, so
+// that the blanks at its end are gone through once.
 fn parse_rest(verb: Verb, mut words: Words<'_>) -> Result<Command, Fault>
     ensures { result ≡ read_as verb (words_of words.entry.line.now) }
 {
-    match (verb, words.next(), words.next(), words.next(), words.next()) {
-        (Verb::Type, Some(writer), Some(place), Some(letter), None) => Ok(Command::Type {
+    let Some(writer) = words.next() else {
+        return parse_alone(verb);
+    };
+    let Some(place) = words.next() else {
+        return parse_with_writer(verb, writer);
+    };
+    match (verb, words.next()) {
+        (Verb::Type, Some(letter)) if words.next().is_none() => Ok(Command::Type {
             writer: parse_writer(writer)?,
             place: parse_place(place)?,
             letter: parse_letter(letter)?,
         }),
-        (Verb::Strike, Some(writer), Some(place), None, _) => Ok(Command::Strike {
+        (Verb::Strike, None) => Ok(Command::Strike {
             writer: parse_writer(writer)?,
             place: parse_place(place)?,
         }),
-        (_, Some(writer), None, _, _) => parse_with_writer(verb, writer),
-        (_, None, _, _, _) => parse_alone(verb),
         _ => Err(Fault::Words(verb)),
     }
 }

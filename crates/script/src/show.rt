@@ -1,23 +1,36 @@
 // How letters are shown: as themselves where they can be printed, else by their number.
 ghost use Rattle.std.specs.Prelude.{◌≡◌, ◌++◌, IfOk, string_bytes, OnOk};
-ghost use Rattle.script.specs.Shown.{is_printable, letter_shown, text_shown};
+ghost use Rattle.script.specs.Shown.{hex_of, escape_of, letter_shown, text_shown};
 
 use std::alloc::{AllocError, Global};
 
-// Is the character shown as itself? Control characters and the backslash are not.
-fn is_printable(c: char) -> bool
-    ensures { result ≡ is_printable c }
+// Writes a number in hexadecimal, with no leading zero. By hand: `write!` takes twice as long, and a text may be full of such letters.
+fn push_hex(out: &mut String, number: u32) -> Result<(), AllocError>
+    ensures { OnOk result (string_bytes out.new ≡ string_bytes out.old ++ hex_of number) }
 {
-    matches!(c, ' '..='[' | ']'..='~' | '\u{a1}'..)
+    if number >= 16 {
+        push_hex(out, number / 16)?;
+    }
+    out.push(char::from_digit(number % 16, 16).unwrap())
 }
 
-// Writes a letter as itself, or in hexadecimal.
+// Writes a letter by its number.
+fn push_escape(out: &mut String, letter: u32) -> Result<(), AllocError>
+    ensures { OnOk result (string_bytes out.new ≡ string_bytes out.old ++ escape_of letter) }
+{
+    out.push_str("\\u{")?;
+    push_hex(out, letter)?;
+    out.push('}')
+}
+
+// Writes a letter as itself, or by its number: so are control characters and the backslash. What is most frequent is found first.
 fn push_letter(out: &mut String, letter: u32) -> Result<(), AllocError>
     ensures { OnOk result (string_bytes out.new ≡ string_bytes out.old ++ letter_shown letter) }
 {
     match char::from_u32(letter) {
-        Some(c) if is_printable(c) => out.push(c),
-        _ => write!(out, "\\u{{{letter:x}}}"),
+        Some(c @ ' '..='~') if c != '\\' => out.push(c),
+        Some(c @ '\u{a1}'..) => out.push(c),
+        _ => push_escape(out, letter),
     }
 }
 

@@ -65,6 +65,17 @@ impl Model for Document {
     ghost invariant = { λ d. Fills d.room (length d.letters.items) (length d.sites.items) (vec_capacity d.letters) (vec_capacity d.sites) };
 }
 
+impl Clone for Document {
+    ghost is_clone = { λ d e. e ≡ d };
+
+    fn clone(&self) -> Result<Document, AllocError> {
+        let mut copy = Document::with_capacity(*self.letters.allocator(), self.room)?;
+        // There is as much room, so this is never refused.
+        let _ = copy.copy_from(self);
+        Ok(copy)
+    }
+}
+
 impl Document {
     // An empty text with room for no letter, which needs no memory.
     #[tactic(auto, unfolding(crate::specs::Texts::paired))]
