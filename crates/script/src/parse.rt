@@ -61,8 +61,8 @@ fn parse_with_writer(verb: Verb, writer: &[u8]) -> Result<Command, Fault>
     }
 }
 
-// The words behind a verb, read as it wants: so many, and no more. No word is asked for where one before it settles what the line is, so
-// that the blanks at its end are gone through once.
+// The words behind a verb, read as it wants: so many, and no more. A word is asked for only where there was one before it,
+// and the fourth only for `type`, so that the blanks at a line's end are gone through once.
 fn parse_rest(verb: Verb, mut words: Words<'_>) -> Result<Command, Fault>
     ensures { result ≡ read_as verb (words_of words.entry.line.now) }
 {
