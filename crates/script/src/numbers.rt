@@ -2,7 +2,8 @@
 ghost use Rattle.std.specs.Prelude.{◌≡◌};
 ghost use Rattle.script.specs.Numbers.{decimal_of, character_of};
 
-// The decimal number that the word is, or the highest that 32 bits hold if it is higher; none if it is no decimal number.
+// The decimal number that the word is, or the highest that 32 bits hold if it is higher; none if it is no decimal
+// number.
 pub(crate) fn decimal(word: &[u8]) -> Option<u32>
     ensures { result ≡ decimal_of word.now }
 {

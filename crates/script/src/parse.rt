@@ -61,28 +61,35 @@ fn parse_with_writer(verb: Verb, writer: &[u8]) -> Result<Command, Fault>
     }
 }
 
-// The words behind a verb, read as it wants: so many, and no more. A word is asked for only where there was one before it,
-// and the fourth only for `type`, so that the blanks at a line's end are gone through once.
+// The words behind a verb, read as it wants: so many, and no more. One more is asked for, and none behind that, so that
+// a line that is refused is not gone through to its end.
 fn parse_rest(verb: Verb, mut words: Words<'_>) -> Result<Command, Fault>
     ensures { result ≡ read_as verb (words_of words.entry.line.now) }
 {
-    let Some(writer) = words.next() else {
-        return parse_alone(verb);
-    };
-    let Some(place) = words.next() else {
-        return parse_with_writer(verb, writer);
-    };
-    match (verb, words.next()) {
-        (Verb::Type, Some(letter)) if words.next().is_none() => Ok(Command::Type {
-            writer: parse_writer(writer)?,
-            place: parse_place(place)?,
-            letter: parse_letter(letter)?,
-        }),
-        (Verb::Strike, None) => Ok(Command::Strike {
-            writer: parse_writer(writer)?,
-            place: parse_place(place)?,
-        }),
-        _ => Err(Fault::Words(verb)),
+    match verb {
+        Verb::Type => match (words.next(), words.next(), words.next(), words.next()) {
+            (Some(writer), Some(place), Some(letter), None) => Ok(Command::Type {
+                writer: parse_writer(writer)?,
+                place: parse_place(place)?,
+                letter: parse_letter(letter)?,
+            }),
+            _ => Err(Fault::Words(verb)),
+        },
+        Verb::Strike => match (words.next(), words.next(), words.next()) {
+            (Some(writer), Some(place), None) => Ok(Command::Strike {
+                writer: parse_writer(writer)?,
+                place: parse_place(place)?,
+            }),
+            _ => Err(Fault::Words(verb)),
+        },
+        Verb::Take | Verb::See | Verb::New => match (words.next(), words.next()) {
+            (Some(writer), None) => parse_with_writer(verb, writer),
+            _ => Err(Fault::Words(verb)),
+        },
+        Verb::Stop | Verb::Settle | Verb::Show => match words.next() {
+            None => parse_alone(verb),
+            _ => Err(Fault::Words(verb)),
+        },
     }
 }
 

@@ -4,8 +4,8 @@ ghost use Rattle.script.specs.Shown.{hex_of, escape_of, letter_shown, text_shown
 
 use std::alloc::{AllocError, Global};
 
-// Writes a number in hexadecimal, with no leading zero. By hand: `write!` takes two to three times as long, and a text may
-// be full of such letters.
+// Writes a number in hexadecimal, with no leading zero. By hand: `write!` takes two to three times as long, and a text
+// may be full of such letters.
 fn push_hex(out: &mut String, number: u32) -> Result<(), AllocError>
     ensures { OnOk result (string_bytes out.new ≡ string_bytes out.old ++ hex_of number) }
 {
@@ -24,8 +24,8 @@ fn push_escape(out: &mut String, letter: u32) -> Result<(), AllocError>
     out.push('}')
 }
 
-// Writes a letter as itself, or, where it is a control character or the backslash, by its number. What is most frequent is
-// found first.
+// Writes a letter as itself, or, where it is a control character or the backslash, by its number. What is most frequent
+// is found first.
 fn push_letter(out: &mut String, letter: u32) -> Result<(), AllocError>
     ensures { OnOk result (string_bytes out.new ≡ string_bytes out.old ++ letter_shown letter) }
 {

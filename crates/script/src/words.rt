@@ -1,5 +1,7 @@
 // The words of a line, which stand between blanks.
-ghost use Rattle.std.specs.Prelude.{◌≡◌};
+ghost use Rattle.std.specs.Prelude.{◌≡◌, ◌≤◌, length};
+ghost use Rattle.std.specs.Bool.{beq};
+ghost use Rattle.std.specs.List.{prefix_len};
 ghost use Rattle.std.specs.Iterator.{YieldsFirstRef, item_count};
 ghost use Rattle.script.specs.Words.{is_blank, words_of};
 
@@ -8,6 +10,14 @@ fn is_blank(b: u8) -> bool
     ensures { result ≡ is_blank b }
 {
     matches!(b, b' ' | b'\t' | b'\r')
+}
+
+// How many bytes at the front are blank, or with `blank` false how many are not.
+fn front_len(bytes: &[u8], blank: bool) -> usize
+    ensures value { result ≡ prefix_len (λ b. beq (is_blank b) blank) bytes.now }
+    ensures bound { result ≤ length bytes.now }
+{
+    bytes.iter().take_while(|b| is_blank(**b) == blank).count()
 }
 
 // The words of a line, in order.
@@ -32,11 +42,9 @@ impl<'a> Iterator for Words<'a> {
     ghost remaining = { item_count (λ s. words_of s.line.now) };
 
     fn next(&mut self) -> Option<&'a [u8]> {
-        let start = self.line.iter().position(|b| !is_blank(*b))?;
-        let line = &self.line[start..];
-        let end = line.iter().position(|b| is_blank(*b)).unwrap_or(line.len());
-        let (word, rest) = line.split_at(end);
+        let (_, line) = self.line.split_at(front_len(self.line, true));
+        let (word, rest) = line.split_at(front_len(line, false));
         self.line = rest;
-        Some(word)
+        if word.is_empty() { None } else { Some(word) }
     }
 }
