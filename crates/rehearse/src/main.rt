@@ -2,6 +2,7 @@
 #![tactic(auto)]
 
 ghost use Rattle.std.specs.Prelude.{◌≡◌};
+ghost use Rattle.script.specs.Commands.{command_of};
 ghost use Rattle.rehearse.specs.Asked.{asked};
 
 use room::action::Action;
@@ -9,7 +10,7 @@ use room::command::Command as RoomCommand;
 use room::edit::Edit;
 use room::event::Event;
 use room::room::{PEERS, Room};
-use script::command::{Command, WRITERS};
+use script::command::{Command, Fault, WRITERS};
 use script::parse::parse;
 use script::show::show;
 use std::alloc::Global;
@@ -18,6 +19,15 @@ use std::process::ExitCode;
 
 // Each writer that a script can name is a peer.
 const _: () = prove!(WRITERS == PEERS);
+
+// The command on a line. Kept out of `run`: beside all that is used there, a loop over a line's bytes has its counter
+// in memory.
+#[inline(never)]
+fn parse_line(line: &[u8]) -> Result<Option<Command>, Fault>
+    ensures { result ≡ command_of line.now }
+{
+    parse(line)
+}
 
 // What a command asks of the room; showing asks nothing. Both commands are types of other crates, so this is no `From`.
 fn asked_of_room(command: Command) -> Option<RoomCommand>
@@ -73,7 +83,7 @@ fn run(rt: &HostRuntime) -> anyhow::Result<bool> {
     // Counted from 0, so that the lines end before the numbers do: what the reader says of its end is not left out.
     for (before, line) in (0u64..).zip(lines) {
         let line = line?;
-        match parse(line.as_slice()) {
+        match parse_line(line.as_slice()) {
             Ok(None) => {}
             Ok(Some(command)) => match asked_of_room(command) {
                 Some(asked) => {
