@@ -61,8 +61,7 @@ fn parse_with_writer(verb: Verb, writer: &[u8]) -> Result<Command, Fault>
     }
 }
 
-// The words behind a verb, read as it wants: so many, and no more. One more is asked for, and none behind that, so that
-// a line that is refused is not gone through to its end.
+// The words behind a verb, read as it wants: so many, and no more. Nothing behind the first word too many is read.
 fn parse_rest(verb: Verb, mut words: Words<'_>) -> Result<Command, Fault>
     ensures { result ≡ read_as verb (words_of words.entry.line.now) }
 {

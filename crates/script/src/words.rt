@@ -44,6 +44,7 @@ impl<'a> Iterator for Words<'a> {
     fn next(&mut self) -> Option<&'a [u8]> {
         let (_, line) = self.line.split_at(front_len(self.line, true));
         let (word, rest) = line.split_at(front_len(line, false));
+        // Before the test, so that blanks at a line's end are gone through once, however often a word is asked for.
         self.line = rest;
         if word.is_empty() { None } else { Some(word) }
     }
