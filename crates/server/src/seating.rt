@@ -36,8 +36,8 @@ impl Server {
         (0..SITES).rev().find(|&site| !self.is_connected(site))
     }
 
-    // How many operations of the history are of the site: never more than 32 bits hold. A sum has no branch, and where sites are mixed
-    // `filter` and `count` take five times as long.
+    // How many operations of the history are of the site: never more than 32 bits hold. A sum has no branch, and where
+    // sites are mixed `filter` and `count` take five times as long.
     pub(crate) fn count_by(&self, site: u8) -> u32
         ensures { result ≡ site_count site (history_of self.now) }
     {
